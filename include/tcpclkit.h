@@ -1155,7 +1155,7 @@ struct tcpclkit_check {
  * TCPCLKIT_OK, TCPCLKIT_NULL, or TCPCLKIT_RANGE if the kind is none of a check: then each field is
  * 0.
  *
- * Proved of tcpclkit_raw_start_check: no byte was fed to the check (`HasFed`).
+ * Proved of tcpclkit_raw_start_check: no byte was fed to the check (`IsKeptCheckAt`).
  */
 uint32_t tcpclkit_raw_start_check(struct tcpclkit_check *check, uint64_t kind);
 static inline uint32_t tcpclkit_start_check(struct tcpclkit_check *check, uint64_t kind) {
@@ -1169,7 +1169,7 @@ static inline uint32_t tcpclkit_start_check(struct tcpclkit_check *check, uint64
  * TCPCLKIT_OK, or TCPCLKIT_RANGE if the struct is no check: then it stays as it was.
  *
  * Proved of tcpclkit_raw_feed_check: if some bytes were fed to the check, these and the piece then
- * were (`HasFed`).
+ * were (`IsKeptCheckAt`).
  */
 uint32_t tcpclkit_raw_feed_check(struct tcpclkit_check *check, const uint8_t *piece,
                                  size_t length);
@@ -1767,10 +1767,10 @@ static inline uint32_t tcpclkit_pack(const uint8_t *bytes, size_t length,
  * UINT64_MAX, since the IDs could then run out.
  *
  * Proved of tcpclkit_raw_pack_more: as for tcpclkit_raw_pack, of `more_tool` of the options and the
- * bytes. `IsPackedAlone`: what tcpclkit_pack writes is the contact header and SESS_INIT, then what
- * this call writes with the first ID 0, and then SESS_TERM, if it is asked for. `IsMoved`: with
- * another first ID, the segments are the same except for their IDs. All IDs fit, since an input has
- * no more bundles than bytes (`HasFewBundles`).
+ * bytes. `HasTextsOfMore`: what tcpclkit_pack writes is the contact header and SESS_INIT, then what
+ * this call writes with the first ID 0, and then SESS_TERM, if it is asked for.
+ * `SegmentsDifferOnlyInIds`: with another first ID, the segments are the same except for their IDs.
+ * All IDs fit, since an input has no more bundles than bytes (`HasNoMoreBundlesThanBytes`).
  */
 uint32_t tcpclkit_raw_pack_more(const uint8_t *bytes, size_t length,
                                 const uint64_t *options, size_t option_count,

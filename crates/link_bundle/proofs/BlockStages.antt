@@ -20,7 +20,7 @@ use Rattle.link_bundle.specs.declared.stage.ScanStage.TheVariants.{BlockHeads, B
 use Rattle.link_bundle.specs.Fits.{same_kind, has_block, stage_fits, hold_fits, part_goes, scan_fits}
 use Rattle.link_bundle.specs.Left.{primary_of, with_known_payload, current, last_block, stage_last, block_end, read_alone, after_block, in_block, stage_left}
 use Rattle.link_bundle.specs.Stages.{stage_after, stage_after_data, stage_in_data, stage_state, takes_bytes}
-use Rattle.link_bundle.specs.Scan.{IsChecked, IsAtStage, IsInData, HasScannedBy, TakesRun, HasDraftedPrimary, part_start}
+use Rattle.link_bundle.specs.Scan.{IfCheckCovers, IsAtStage, IsInData, HasScannedBy, TakesRun, HasDraftedPrimary, part_start}
 use Rattle.link_bundle.proofs.Steps.{at_stage, fits_at, fits_stage, grown_reads, all_grown, primary_kept}
 use Rattle.link_bundle.proofs.Taking.{takes_on, ends_here}
 
@@ -299,8 +299,8 @@ pub data_taken : {old new : BundleScan} {left : ℕ} (run : List ℕ)
     → old.stage ≡ BlockData left → AreBytes run → length run ≤ left
     → new.stage ≡ stage_in_data (left - length run) old.draft.block.check old.draft.payload_span
     → new.draft ≡ old.draft
-    → ((covered : List ℕ) → IsChecked old.draft.block.check old.cursor.check covered
-    → IsChecked old.draft.block.check new.cursor.check (covered ++ run))
+    → ((covered : List ℕ) → IfCheckCovers old.draft.block.check old.cursor.check covered
+    → IfCheckCovers old.draft.block.check new.cursor.check (covered ++ run))
     → new.cursor.count ≡ old.cursor.count + length run → new.cursor.hold ≡ old.cursor.hold
     → TakesRun old new run
 unfolding stage_left

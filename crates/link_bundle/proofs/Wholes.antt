@@ -20,7 +20,7 @@ use Rattle.link_bundle.specs.declared.{cursor.Cursor.Cursor, draft.Draft.Draft, 
 use Rattle.link_bundle.specs.declared.stage.ScanStage.TheVariants.{PrimaryBlock, BlockHeads, Ended}
 use Rattle.link_bundle.specs.Fits.{has_block, scan_fits}
 use Rattle.link_bundle.specs.Left.{HasPrimary, primary_of, bundle_of, with_block, stage_last, last_block, block_end, read_alone, with_known_payload, after_block, in_block, stage_left}
-use Rattle.link_bundle.specs.Scan.{HasScannedBy, HasScanned, Advances, IsChecked, HasDraftedPrimary, part_start}
+use Rattle.link_bundle.specs.Scan.{HasScannedBy, HasScanned, Advances, IfCheckCovers, HasDraftedPrimary, part_start}
 use Rattle.link_bundle.specs.Stages.{stage_after, stage_in_data}
 use Rattle.link_bundle.proofs.Steps.{all_held, at_stage, fits_at, fits_stage, all_grown, grown_reads, primary_kept}
 use Rattle.link_bundle.proofs.{HeldPart.none_of, Taking.bundle_goes-take, Steps.append-hold}
@@ -145,7 +145,7 @@ pub heads_come : {old new : Cursor} {draft : Draft} {before : List Block} {seen 
     → ((more : List ℕ) → next_block_at draft.numbers (old.hold ++ (run ++ more)) 0 ≡ Ok (block, size))
     → block.end ≡ None → block.start ≡ 0 → block.data_start ≡ size
     → size ≡ length old.hold + length run → new.hold ≡ [] → new.count ≡ part_start old + size
-    → IsChecked block.check new.check (old.hold ++ run)
+    → IfCheckCovers block.check new.check (old.hold ++ run)
     → let after = with_block draft (moved (part_start old) block) in
     HasScannedBy (stage_in_data block.data_length after.block.check after.payload_span) new after
     (before ++ stage_last BlockHeads draft (part_start old)) (seen ++ run)
@@ -172,7 +172,7 @@ heads_come {old = old} {new = new} {draft = draft} {before = before} {seen = see
       nothing = nothing;
       end = omega (arith, counts, begins);
       begun = omega (arith, counts, zero);
-      checks = subst (IsChecked block.check new.check) (sym rest) checked;
+      checks = subst (IfCheckCovers block.check new.check) (sym rest) checked;
     })
     (primary_kept old new draft seen run whole come.primary)
     (λ more.

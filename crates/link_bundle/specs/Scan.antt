@@ -41,9 +41,9 @@ pub record IsHoldingPart (stage : ScanStage) (cursor : Cursor) (draft : Draft)
   pub cut : part_reading stage draft.numbers covered cursor.hold ≡ cut_short cursor.hold
 
 -- the check of a block, if it has one, covers these bytes
-abbrev pub IsChecked : Option CheckKind → Check → List ℕ → Type 0
-IsChecked None check covered = Unit {0}
-IsChecked (Some kind) check covered = HasPushed kind check covered
+abbrev pub IfCheckCovers : Option CheckKind → Check → List ℕ → Type 0
+IfCheckCovers None check covered = Unit {0}
+IfCheckCovers (Some kind) check covered = HasPushed kind check covered
 
 -- the bytes seen end in the data of a block, which has `left` bytes left
 pub record IsInData (left : ℕ) (cursor : Cursor) (block : CanonicalBlock)
@@ -51,7 +51,7 @@ pub record IsInData (left : ℕ) (cursor : Cursor) (block : CanonicalBlock)
   pub nothing : cursor.hold ≡ []
   pub end : cursor.count + left ≡ block.data_start + block.data_length
   pub begun : block.start ≤ cursor.count
-  pub checks : IsChecked block.check cursor.check (drop block.start seen)
+  pub checks : IfCheckCovers block.check cursor.check (drop block.start seen)
 
 -- the state of the cursor and the draft at each stage
 abbrev pub IsAtStage : ScanStage → Cursor → Draft → List ℕ → Type 0
@@ -83,7 +83,7 @@ PartLeadsTo BlockHeads old cursor size next new check =
     × (block.start ≡ 0) × (block.data_start ≡ size) × (block.end ≡ None)
     × (new ≡ with_block old (moved (part_start cursor) block))
     × (next ≡ stage_in_data block.data_length new.block.check new.payload_span)
-    × IsChecked block.check check (take size cursor.hold)
+    × IfCheckCovers block.check check (take size cursor.hold)
 PartLeadsTo (CheckField kind) old cursor size next new check =
     ((covered : List ℕ) → HasPushed kind cursor.check covered
     → field_from kind covered cursor.hold ≡ Ok (true, size))

@@ -1,6 +1,6 @@
 //! The progress of a scan: the bytes counted, the bytes held, and the check of the current block.
 ghost use Rattle.std.specs.Prelude.{◌≡◌, ℕ, ◌+◌, ◌-◌, ◌^◌, ◌<◌, ◌≤◌, List, [], ◌++◌, length, take, min};
-ghost use Rattle.link_bundle.specs.Scan.{IsChecked, part_start};
+ghost use Rattle.link_bundle.specs.Scan.{IfCheckCovers, part_start};
 
 use crate::hold::Hold;
 use link_cbor::{Check, CheckKind};
@@ -99,7 +99,7 @@ impl Cursor {
     /// Begins the check of a canonical block, whose heads are the first `size` bytes held.
     pub fn begin_check(&mut self, check: Option<CheckKind>, size: usize)
         requires { size ≤ length self.old.hold }
-        ensures checks { IsChecked check self.new.check (take size self.old.hold) }
+        ensures checks { IfCheckCovers check self.new.check (take size self.old.hold) }
         ensures count { self.new.count ≡ self.old.count }
         ensures hold { self.new.hold ≡ self.old.hold }
     {
@@ -113,8 +113,8 @@ impl Cursor {
     #[inline(always)]
     pub fn data_run(&mut self, check: Option<CheckKind>, run: &[u8])
         requires { self.old.count + length run.now ≤ 2 ^ 63 - 1 }
-        ensures checks { (covered : List ℕ) → IsChecked check self.old.check covered
-            → IsChecked check self.new.check (covered ++ run.now) }
+        ensures checks { (covered : List ℕ) → IfCheckCovers check self.old.check covered
+            → IfCheckCovers check self.new.check (covered ++ run.now) }
         ensures count { self.new.count ≡ self.old.count + length run.now }
         ensures hold { self.new.hold ≡ self.old.hold }
     {

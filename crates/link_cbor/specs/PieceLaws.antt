@@ -4,7 +4,7 @@
 use Rattle.std.proofs.Common.{◌≡◌, ℕ, zero, suc, ◌<◌, Bool, true, false, List, [], ◌∷◌, ◌++◌, length, take, refl, sym, ap, ◌⊎◌, inl, inr, ⊎_elim, append_assoc, arith}
 use Rattle.std.proofs.lemmas.List.{append-nil}
 use Rattle.std.proofs.lemmas.Bool.{cases_Bool}
-use Rattle.link_cbor.specs.Pieces.{taken, IsShortestPrefix, JoinsPieces, TakenIsShortest}
+use Rattle.link_cbor.specs.Pieces.{taken, IsShortestPrefix, PiecesAreTakenAsOne, TakenIsShortest}
 
 -- no byte is taken if none is needed
 pub taken-idle : (goes : List ℕ → Bool) (seen bytes : List ℕ) → goes seen ≡ false
@@ -24,7 +24,7 @@ pub taken-nil : (goes : List ℕ → Bool) (seen : List ℕ) → taken goes seen
 unfolding taken
 taken-nil goes seen = refl
 
-pub joins_pieces : (goes : List ℕ → Bool) → JoinsPieces goes
+pub joins_pieces : (goes : List ℕ → Bool) → PiecesAreTakenAsOne goes
 joins_pieces goes seen [] second =
     rw (taken-nil goes seen, append-nil seen)
 joins_pieces goes seen (byte ∷ first) second =

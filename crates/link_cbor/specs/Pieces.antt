@@ -20,8 +20,8 @@ pub record IsShortestPrefix (goes : List ℕ → Bool) (seen bytes front : List 
   pub stops : (goes (seen ++ front) ≡ false) ⊎ (front ≡ bytes)
 
 -- cutting the bytes into two pieces does not change which of them are taken
-abbrev pub JoinsPieces : (List ℕ → Bool) → Type 0
-JoinsPieces goes =
+abbrev pub PiecesAreTakenAsOne : (List ℕ → Bool) → Type 0
+PiecesAreTakenAsOne goes =
     (seen first second : List ℕ) →
     taken goes seen (first ++ second) ≡ taken goes seen first
     ++ taken goes (seen ++ taken goes seen first) second

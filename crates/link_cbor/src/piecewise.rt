@@ -1,7 +1,7 @@
 //! The trait of scans that consume bytes one at a time or in slices of any size.
 ghost use Rattle.std.specs.Prelude.{◌≡◌, ℕ, ◌+◌, ◌-◌, ◌^◌, ◌<◌, ◌≤◌, Bool, List, ◌∷◌, [], ◌++◌, length, IsTrue};
 ghost use Rattle.std.specs.Bool.{OnTrue};
-ghost use Rattle.link_cbor.specs.Pieces.{taken, JoinsPieces, TakenIsShortest};
+ghost use Rattle.link_cbor.specs.Pieces.{taken, PiecesAreTakenAsOne, TakenIsShortest};
 ghost use Rattle.link_cbor.specs.PieceLaws.{joins_pieces, takes_shortest};
 
 /// Consumes bytes one at a time or in slices of any size, until it needs no more.
@@ -63,7 +63,7 @@ pub trait Piecewise {
     }
 
     // cutting a slice in two does not change the bytes that are consumed
-    ghost pieces: { JoinsPieces goes } = { joins_pieces goes };
+    ghost pieces: { PiecesAreTakenAsOne goes } = { joins_pieces goes };
 
     // the bytes consumed are the shortest prefix after which no more are needed, or the whole slice
     ghost shortest: { TakenIsShortest goes } = { takes_shortest goes };

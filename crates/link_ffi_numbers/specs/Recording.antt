@@ -1,6 +1,6 @@
 -- A contact header, a message and an extension item as numbers.
 use Rattle.std.specs.Prelude.{◌≡◌, ℕ, ◌+◌, ◌-◌, ◌^◌, ◌==◌, ◌&&◌, ◌||◌, Bool, nat_le, min, List, length, Option, Some, None, Ok, Err, if◌then◌else◌}
-use Rattle.link_wire.specs.InSlice.{LiesAt, ItemLies}
+use Rattle.link_wire.specs.InSlice.{MessageLies, ItemLies}
 use Rattle.link_wire.specs.Message.{item_head_at, total_at}
 use Rattle.link_wire.specs.Part.{Part, ◌>>=◌}
 use Rattle.link_wire.specs.declared.fault.{WireFault.WireFault, WireFault.TheVariants.Truncated}
@@ -129,7 +129,7 @@ data_status size found = if nat_le (size_of found) (size - found.end) then 0 els
 pub record DescribesMessage (bytes : List ℕ) (offset : ℕ) (part : Part read.Message)
     (answer : Message) (status : ℕ) : Type 0 where
   pub found : MessageAt
-  pub lies : LiesAt bytes part found
+  pub lies : MessageLies bytes part found
   pub numbers : answer ≡ message_shown (length bytes) offset found
   pub gives : status ≡ data_status (length bytes) found
 

@@ -45,7 +45,7 @@ pub record IsWrittenOver (text before slice : List ℕ) (written : Written) : Ty
   pub fits : written.fits ≡ nat_le (length text) (length slice)
 
 -- the slices have the texts that a run of the tool has written
-pub record WrittenSlices (tool : Option Tool) (bytes : List ℕ) (old new : Slices)
+pub record RunsIntoSlices (tool : Option Tool) (bytes : List ℕ) (old new : Slices)
     (ended : Ended) : Type 0 where
   pub output_text : List ℕ
   pub report_text : List ℕ

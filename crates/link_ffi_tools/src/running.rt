@@ -4,7 +4,7 @@ ghost use Rattle.std.specs.Prelude.{◌≡◌, [], length, Option};
 ghost use Rattle.link_run.specs.Run.{Tool, devices, looks};
 ghost use Rattle.link_tools.specs.Options.{AfterTool};
 ghost use Rattle.link_ffi_tools.specs.Tool.{texts_status};
-ghost use Rattle.link_ffi_tools.specs.Run.{AfterSliceRun, IsWrittenOver, WrittenSlices, ReturnsTool};
+ghost use Rattle.link_ffi_tools.specs.Run.{AfterSliceRun, IsWrittenOver, RunsIntoSlices, ReturnsTool};
 
 use crate::device::{SliceReader, SliceWriter};
 use link_ffi_numbers::status::{MEMORY, OK, TOO_SMALL};
@@ -141,7 +141,7 @@ fn written_by(writer: &SliceWriter<'_>) -> Written
 /// Runs the tool over the bytes to its end, into these slices.
 fn run_whole<T: SliceTool>(tool: T, bytes: &[u8], output: &mut [u8], report: &mut [u8]) -> Ended
     requires { T.ready tool }
-    ensures { WrittenSlices (T.tool tool) bytes.now
+    ensures { RunsIntoSlices (T.tool tool) bytes.now
         (record { output = output.old; report = report.old })
         (record { output = output.new; report = report.new })
         result }

@@ -6,9 +6,9 @@ use Rattle.std.specs.Prelude.{None}
 use Rattle.std.proofs.lemmas.Bool.Decides.{nat_tests}
 use Rattle.link_cbor.specs.declared.check.{CheckKind.CheckKind}
 use Rattle.link_bundle_writer.proofs.CheckBack.{register_fits}
-use Rattle.link_ffi_writer.specs.Checks.{kind_of, HasFed}
+use Rattle.link_ffi_writer.specs.Checks.{kind_of, IsKeptCheckAt}
 use Rattle.link_ffi_writer.specs.declared.check.KeptCheck.{KeptCheck}
 
-pub is_kept : (kind : CheckKind) (check : KeptCheck) (bytes : List ℕ) → HasFed kind check bytes
+pub is_kept : (kind : CheckKind) (check : KeptCheck) (bytes : List ℕ) → IsKeptCheckAt kind check bytes
     → kind_of check ≡ None → ⊥
 is_kept kind check bytes fed none = grind (arith, nat_tests, register_fits kind bytes)

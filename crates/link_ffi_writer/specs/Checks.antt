@@ -20,7 +20,7 @@ kind_of check =
     else None
 
 -- The numbers are those of a check of this kind to which exactly these bytes were fed.
-pub record HasFed (kind : CheckKind) (check : KeptCheck) (bytes : List ℕ) : Type 0 where
+pub record IsKeptCheckAt (kind : CheckKind) (check : KeptCheck) (bytes : List ℕ) : Type 0 where
   pub all_bytes : AreBytes bytes
   pub same_kind : check.kind ≡ check_type (Some kind)
   pub register : check.state ≡ register_after kind (all_ones kind) bytes

@@ -37,9 +37,9 @@ abbrev pub IsNoMessage : Message → Type 0
 IsNoMessage it = (fields : Fields) → FieldsFit fields → plain it ≢ fields_shown fields
 
 -- What a call says of the message with these numbers: its fields, or `None` if no message has them.
-abbrev pub FieldsBy : Message → Option Fields → Type 0
-FieldsBy it (Some fields) = HasFields it fields
-FieldsBy it None = IsNoMessage it
+abbrev pub AfterFieldsBy : Message → Option Fields → Type 0
+AfterFieldsBy it (Some fields) = HasFields it fields
+AfterFieldsBy it None = IsNoMessage it
 
 -- the number if it fits in one byte, or else `None`
 abbrev pub byte : ℕ → Option ℕ

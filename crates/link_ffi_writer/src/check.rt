@@ -3,7 +3,7 @@
 ghost use Rattle.std.specs.Prelude.{◌≡◌, ℕ, ◌^◌, ◌<◌, true, List, [], ◌++◌, Some, None, IfSome, IsSomeAnd, is_some, option_map};
 ghost use Rattle.link_cbor.specs.Pushed.{HasPushed};
 ghost use Rattle.link_cbor.specs.declared.check.CheckKind.{CheckKind};
-ghost use Rattle.link_ffi_writer.specs.Checks.{kind_by, kind_of, HasFed};
+ghost use Rattle.link_ffi_writer.specs.Checks.{kind_by, kind_of, IsKeptCheckAt};
 
 use link_bundle_writer::{Check, CheckKind, write_check};
 use link_writing::WriteFault;
@@ -20,7 +20,7 @@ pub struct KeptCheck {
 
 /// The numbers of a check of this kind.
 fn check_shown(kind: CheckKind, check: &Check) -> KeptCheck
-    ensures { (bytes : List ℕ) → HasPushed kind check.now bytes → HasFed kind result bytes }
+    ensures { (bytes : List ℕ) → HasPushed kind check.now bytes → IsKeptCheckAt kind result bytes }
 {
     let number = match kind {
         CheckKind::Crc16 => 1,
@@ -42,7 +42,7 @@ impl KeptCheck {
     pub fn new(kind: u64) -> Option<KeptCheck>
         ensures none { kind_by kind ≡ None → result ≡ None }
         ensures some { (known : CheckKind) → kind_by kind ≡ Some known
-            → IsSomeAnd result (λ check. HasFed known check []) }
+            → IsSomeAnd result (λ check. IsKeptCheckAt known check []) }
     {
         let known = match kind {
             1 => CheckKind::Crc16,
@@ -67,7 +67,7 @@ impl KeptCheck {
     /// The kind of the check, and the check. It is `None` if the numbers are those of no check.
     fn check(&self) -> Option<(CheckKind, Check)>
         ensures kind { option_map (λ found. found.0) result ≡ kind_of self.now }
-        ensures check { (kind : CheckKind) (bytes : List ℕ) → HasFed kind self.now bytes
+        ensures check { (kind : CheckKind) (bytes : List ℕ) → IsKeptCheckAt kind self.now bytes
             → IfSome result (λ found. HasPushed kind found.1 bytes) }
     {
         let kind = self.kind()?;
@@ -77,9 +77,9 @@ impl KeptCheck {
     /// Feeds the bytes of a piece to the check. Returns false, and changes nothing, if the numbers
     /// are those of no check.
     pub fn feed(&mut self, piece: &[u8]) -> bool
-        ensures fed { (kind : CheckKind) (before : List ℕ) → HasFed kind self.old before
-            → HasFed kind self.new (before ++ piece.now) }
-        ensures check { (kind : CheckKind) (before : List ℕ) → HasFed kind self.old before
+        ensures fed { (kind : CheckKind) (before : List ℕ) → IsKeptCheckAt kind self.old before
+            → IsKeptCheckAt kind self.new (before ++ piece.now) }
+        ensures check { (kind : CheckKind) (before : List ℕ) → IsKeptCheckAt kind self.old before
             → result ≡ true }
         ensures known { result ≡ is_some (kind_of self.old) }
         ensures unknown { kind_of self.old ≡ None → self.new ≡ self.old }
@@ -94,7 +94,7 @@ impl KeptCheck {
 
     /// The check value of the bytes that were fed, if the numbers are those of a check.
     pub fn value(&self) -> Option<u32>
-        ensures value { (kind : CheckKind) (bytes : List ℕ) → HasFed kind self.now bytes
+        ensures value { (kind : CheckKind) (bytes : List ℕ) → IsKeptCheckAt kind self.now bytes
             → result ≡ Some (crc kind bytes) }
         ensures known { is_some result ≡ is_some (kind_of self.now) }
     {
@@ -108,7 +108,7 @@ impl KeptCheck {
     ///
     /// The numbers are not those of a check, or the slice is too small.
     pub fn write_field(&self, slice: &mut [u8]) -> Result<usize, WriteFault>
-        ensures field { (kind : CheckKind) (block : List ℕ) → HasFed kind self.now block
+        ensures field { (kind : CheckKind) (block : List ℕ) → IsKeptCheckAt kind self.now block
             → WritesSlice (Some (check_field kind block)) slice.old slice.new result }
         ensures unknown { kind_of self.now ≡ None → WritesSlice None slice.old slice.new result }
     {

@@ -2,7 +2,7 @@
 
 ghost use Rattle.std.specs.Prelude.{◌≡◌, ◌&&◌, nat_lt, Some, None, IfSome, if◌then◌else◌};
 ghost use Rattle.link_wire_writer.specs.ReadsBack.{FieldsFit};
-ghost use Rattle.link_ffi_writer.specs.Messages.{byte, two_bytes, fields_of, has_same, FieldsBy, reason_of_by};
+ghost use Rattle.link_ffi_writer.specs.Messages.{byte, two_bytes, fields_of, has_same, AfterFieldsBy, reason_of_by};
 
 use link_ffi_numbers::recording::{Message, fields_shown};
 use link_report::ReasonOf;
@@ -102,7 +102,7 @@ fn has_same(first: &Message, second: &Message) -> bool
 /// The fault and the places are not read. Each other number that the kind does not have has to be
 /// 0.
 pub fn fields_by(message: &Message) -> Option<Fields>
-    ensures { FieldsBy message.now result }
+    ensures { AfterFieldsBy message.now result }
 {
     let fields = fields_of(message)?;
     if has_same(message, &fields_shown(fields)) {

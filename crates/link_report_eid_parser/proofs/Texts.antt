@@ -8,7 +8,7 @@ use Rattle.link_bundle_types.specs.declared.eid.Eid.TheVariants.{DtnNone, Dtn, I
 use Rattle.link_bundle_types.specs.declared.kept_eid.EidForm.TheVariants as form
 use Rattle.link_report.specs.{Eid.eid_text, Text.{escaped_byte, is_plain, escaped, number_text}}
 use Rattle.link_report_eid_parser.proofs.{Escapes.same_name, Numbers.{same_pair, no_pair}}
-use Rattle.link_report_eid_parser.specs.TextOf.{IsTextOf, IsNoText, IsEidRead, OneText}
+use Rattle.link_report_eid_parser.specs.TextOf.{IsTextOf, IsNoText, ReadEid, OneText}
 
 -- ---- the scheme
 
@@ -44,7 +44,7 @@ name_text name text are short other is = record {
 -- a name that was copied to the start of a slice
 pub name_read : (name old text : List ℕ) (size : ℕ) → size ≡ length name
     → IsTextOf (Dtn (record { items = name })) text
-    → IsEidRead text old (name ++ drop size old) form.Dtn size
+    → ReadEid text old (name ++ drop size old) form.Dtn size
 name_read name old text size size_is is = record {
   within = omega (arith, length-append name (drop size old));
   is = rw (take_at name (drop size old) size (sym size_is)) is;

@@ -36,14 +36,14 @@ formed_eid (form.Ipn3 allocator node service) name = Ipn3 allocator node service
 
 -- An endpoint ID of this form was read. The slice begins with its dtn name, which has `size` bytes;
 -- without a dtn name, `size` is 0. The rest of the slice is as it was.
-pub record IsEidRead (text old new : List ℕ) (read : EidForm) (size : ℕ) : Type 0 where
+pub record ReadEid (text old new : List ℕ) (read : EidForm) (size : ℕ) : Type 0 where
   pub within : size ≤ length new
   pub is : IsTextOf (formed_eid read (take size new)) text
   pub named : (read ≡ form.Dtn) ⊎ (size ≡ 0)
   pub rest : drop size new ≡ drop size old
 
 -- a dtn name has more bytes than the slice, which is as it was
-pub record IsLonger (text old new : List ℕ) (size : ℕ) : Type 0 where
+pub record RefusedLongName (text old new : List ℕ) (size : ℕ) : Type 0 where
   pub name : List ℕ
   pub is : IsTextOf (Dtn (record { items = name })) text
   pub size_is : size ≡ length name
@@ -53,9 +53,9 @@ pub record IsLonger (text old new : List ℕ) (size : ℕ) : Type 0 where
 -- What the reading of a text returns: the form and the length of the dtn name, or why there is
 -- none.
 abbrev pub ReadsText : (text old new : List ℕ) → Result (EidForm × ℕ) TextFault → Type 0
-ReadsText text old new (Ok (form, size)) = IsEidRead text old new form size
+ReadsText text old new (Ok (form, size)) = ReadEid text old new form size
 ReadsText text old new (Err NoText) = IsNoText text × (new ≡ old)
-ReadsText text old new (Err (NameTooLong size)) = IsLonger text old new size
+ReadsText text old new (Err (NameTooLong size)) = RefusedLongName text old new size
 
 -- No two endpoint IDs have the same text.
 abbrev pub OneText : Type 0

@@ -9,7 +9,7 @@ use Rattle.link_wire.specs.declared.fault.WireFault.{WireFault}
 use Rattle.link_wire.specs.declared.fault.WireFault.TheVariants as wire
 use Rattle.link_report.specs.{Fault.fault_text}
 use Rattle.link_report.proofs.Faults.{some_fault}
-use Rattle.link_run.specs.Made.{StreamStop, Made, IsLasting, whole_by, so_far_by, shows_fault, tool_of, is_lasting, stop_of}
+use Rattle.link_run.specs.Made.{StreamStop, Made, HasLastingFaults, whole_by, so_far_by, shows_fault, tool_of, is_lasting, stop_of}
 use Rattle.link_run.specs.Run.{Texts, HasNoEarlierFault}
 use Rattle.link_run.proofs.Runs.{ReportsFaults, few_over}
 
@@ -101,13 +101,13 @@ front_in front rest history given parts within =
     sym (take-append-le count history given (omega arith) ∙ take_all count history (omega arith))
     ∙ ap (take count) parts ∙ take-append count front rest within
 
-unshown_front : (made : List ℕ → Made) → IsLasting made → (front more : List ℕ)
+unshown_front : (made : List ℕ → Made) → HasLastingFaults made → (front more : List ℕ)
     → shows_fault (made (front ++ more)).stop ≡ false → shows_fault (made front).stop ≡ false
 unshown_front made lasting front more unshown =
     false_from_ne_true _ (λ shown. false≢true (sym unshown ∙ lasting front more shown))
 
 -- bytes that show no fault
-pub ends_unshown : (made : List ℕ → Made) → IsLasting made → (bytes : List ℕ)
+pub ends_unshown : (made : List ℕ → Made) → HasLastingFaults made → (bytes : List ℕ)
     → shows_fault (made bytes).stop ≡ false → HasNoEarlierFault (tool_of made) bytes
 ends_unshown made lasting bytes unshown = λ front rest parts some.
     unshown_front made lasting front rest
@@ -115,7 +115,7 @@ ends_unshown made lasting bytes unshown = λ front rest parts some.
 
 -- If no proper prefix of the bytes given shows a fault after the history, no proper prefix of all
 -- bytes does.
-pub ends_shown : (made : List ℕ → Made) → IsLasting made → (history given : List ℕ)
+pub ends_shown : (made : List ℕ → Made) → HasLastingFaults made → (history given : List ℕ)
     → shows_fault (made history).stop ≡ false
     → ((count : ℕ) → count < length given
     → shows_fault (made (history ++ take count given)).stop ≡ false)

@@ -10,8 +10,8 @@ use Rattle.link_wire.specs.Source.{reader_of, window_of, ahead, Takes, TakesThen
 use Rattle.link_wire.specs.declared.IoFault.{IoFault}
 use Rattle.link_wire.specs.declared.IoFault.TheVariants as io
 use Rattle.link_wire.specs.declared.Source.{Source}
-use Rattle.link_run.specs.Run.{Texts, no_texts, ◌then◌, Tool, Looks, Devices, Place, devices_at, NoneFailed, HasWritten, HasWrittenAtEnd, IsAllGiven, FinishedRun, AreDue, IsBehind, EndedRun}
-use Rattle.link_run.specs.Writers.{place_of, on_output, Writes, WritesPart, AfterWrite, FailedSettle}
+use Rattle.link_run.specs.Run.{Texts, no_texts, ◌then◌, Tool, Looks, Devices, Place, devices_at, NoneFailed, HasWritten, HasWrittenAtEnd, IsAllGiven, FinishedRun, AreDue, IsReportBehind, EndedRun}
+use Rattle.link_run.specs.Writers.{place_of, on_output, Writes, FailedWrite, AfterWrite, FailedSettle}
 use Rattle.link_run.specs.declared.{run.Status.Status, writers.Writers.Writers}
 
 -- what is ahead is the window and then what the reader has left
@@ -149,7 +149,7 @@ module _ {R W E : Type 0} (look : Looks R W E) where
   behind : (tool : Tool) (given : List ℕ) (before : Texts) (output report : ℕ)
       → IsWrittenSoFar tool given before → report ≡ 0
       → ((length before.report + report ≡ 0)
-      ⊎ IsBehind tool given (length before.output + output) (length before.report + report))
+      ⊎ IsReportBehind tool given (length before.output + output) (length before.report + report))
   behind tool given before output report stood none =
       ⊎_elim
       (λ empty. inl (let no_report = ap length empty in omega arith))
@@ -187,7 +187,7 @@ module _ {R W E : Type 0} (look : Looks R W E) where
       → AreDue look tool (devices_at (place_of s new)) given (window_of s)
       due
       → length (window_of s) < window_size → (0 < length texts.output → IsWrittenSoFar tool given before)
-      → WritesPart look.output look.report old new texts fault
+      → FailedWrite look.output look.report old new texts fault
       → EndedRun look tool start (devices_at (place_of s new)) given
       (Err fault)
   writer_lost tool faults start s old new given before texts due fault written sound same are_due few stood part =
@@ -312,8 +312,8 @@ module _ {W E : Type 0} (out_look : W → Output) (report_look : E → Output) w
   -- output.
   pub part_of_more : (old new : Writers W E) (texts more : Texts) (fault : IoFault)
       → (0 < length texts.report → more.output ≡ [])
-      → WritesPart out_look report_look old new texts fault
-      → WritesPart out_look report_look old new (texts then more) fault
+      → FailedWrite out_look report_look old new texts fault
+      → FailedWrite out_look report_look old new (texts then more) fault
   part_of_more old new texts more fault same part = record {
     kind = part.kind;
     output_count = min part.output_count (length texts.output);
@@ -354,8 +354,8 @@ module _ {W E : Type 0} (out_look : W → Output) (report_look : E → Output) w
   -- a text was written to the output, and then a writer failed in further texts
   pub part_behind : (old mid new : Writers W E) (first : List ℕ) (second : Texts) (fault : IoFault)
       → Writes out_look report_look old mid (on_output first)
-      → WritesPart out_look report_look mid new second fault
-      → WritesPart out_look report_look old new (on_output first then second) fault
+      → FailedWrite out_look report_look mid new second fault
+      → FailedWrite out_look report_look old new (on_output first then second) fault
   part_behind old mid new first second fault one part = record {
     kind = part.kind;
     output_count = length first + part.output_count;

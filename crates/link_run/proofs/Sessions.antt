@@ -12,7 +12,7 @@ use Rattle.link_report.specs.{Fault.fault_text, declared.fault.Fault.Fault as Re
 use Rattle.link_report.specs.declared.fault.Fault.TheVariants.{Wire}
 use Rattle.link_run.specs.Made.{Made, with_fault, whole_by, shows_fault, tool_of, is_lasting, stop_of}
 use Rattle.link_run.specs.Reading.{NotHandedOn, AfterFetchContact, AfterFetchMessage, AfterFetchData}
-use Rattle.link_run.specs.{Run.{Texts, ◌then◌, Looks, Devices, LastStep}, Stages.IsRunAt}
+use Rattle.link_run.specs.{Run.{Texts, ◌then◌, Looks, Devices, EndingStep}, Stages.IsRunAt}
 use Rattle.link_run.specs.Writers.{place_of, on_report, AfterLastWrite, AfterEnd}
 use Rattle.link_run.specs.declared.{run.Status.Status, writers.Writers.Writers}
 use Rattle.link_run.proofs.Ends.{lasts, few_at_fault, undecided_unshown, standing_unshown}
@@ -64,7 +64,7 @@ module _ {R W E : Type 0} {look : Looks R W E} {made : List ℕ → Made} {start
       → ((count : ℕ) → count < length given
       → shows_fault (of (reading_of (history ++ take count given))).stop ≡ false)
       → AfterLastWrite look.output look.report before after (on_report (fault_text (Wire offset fault))) 3 answer
-      → LastStep look (tool_of made) start (place_of new after) most history answer
+      → EndingStep look (tool_of made) start (place_of new after) most history answer
   wire_fault {given} offset fault reading answer takes size few read texts stops shown_last gives =
       let bytes = history ++ given in
       let m_is : made bytes ≡ of reading =
@@ -91,7 +91,7 @@ module _ {R W E : Type 0} {look : Looks R W E} {made : List ℕ → Made} {start
       → (of (reading_of (history ++ given))).texts ≡ (made history).texts
       → shows_fault (of (reading_of (history ++ given))).stop ≡ false
       → answer ≡ Err fault → after ≡ before
-      → LastStep look (tool_of made) start (place_of new after) most history answer
+      → EndingStep look (tool_of made) start (place_of new after) most history answer
   reader_fault {given} fault answer stops size texts unshown gives same =
       let m_is = is (history ++ given) in
       read_fails most old new before at given after fault answer stops size (sym (ap (λ (m : Made). m.texts) m_is ∙ texts)) (ap (λ (m : Made). shows_fault m.stop) m_is ∙ unshown) gives same
@@ -109,7 +109,7 @@ module _ {R W E : Type 0} {look : Looks R W E} {made : List ℕ → Made} {start
         → (why : Stop) (answer : Result Status IoFault)
         → AfterNext look.input old new history (Err why)
         → AfterEnd look.output look.report why before after answer
-        → LastStep look (tool_of made) start (place_of (source_of new) after) longest_head history answer
+        → EndingStep look (tool_of made) start (place_of (source_of new) after) longest_head history answer
     message_stops after session same (stop.Wire offset fault) answer got gives =
         let kept = same (joined (reading_of history) (ended (Fault offset fault))) (record { contact = refl; entries = append-nil _ }) tt in
         wire_fault of is longest_head (source_of old) (source_of new) before after at offset fault _ answer got.takes got.size
@@ -127,7 +127,7 @@ module _ {R W E : Type 0} {look : Looks R W E} {made : List ℕ → Made} {start
         → (why : Stop) (answer : Result Status IoFault)
         → AfterLoad look.input old new history (Err why)
         → AfterEnd look.output look.report why before after answer
-        → LastStep look (tool_of made) start (place_of (source_of new) after) most history answer
+        → EndingStep look (tool_of made) start (place_of (source_of new) after) most history answer
     data_stops most after session stops (stop.Wire offset fault) answer got gives =
         let cut : (of (reading_of history)).stop ≡ Some (record { fault = Wire offset fault; lasts = is_lasting fault }) =
         stops ∙ ap stop_of got.cut ∙ ap (λ f. Some (record { fault = Wire offset f; lasts = is_lasting f })) (sym got.kind) in
@@ -147,7 +147,7 @@ module _ {R W E : Type 0} {look : Looks R W E} {made : List ℕ → Made} {start
     lost : (most : ℕ) (why : Stop) (answer : Result Status IoFault)
         → NotHandedOn look old new before mid why
         → AfterEnd look.output look.report why mid after answer
-        → LastStep look (tool_of made) start (place_of (source_of new) after) most history answer
+        → EndingStep look (tool_of made) start (place_of (source_of new) after) most history answer
     lost most why answer not_on gives =
         let as_failed = rw not_on.is at gives in
         rw (not_on.unread, as_failed.0, as_failed.1) (not_handed_on (source_of old) before mid at most not_on.fault not_on.few not_on.unsettled)
@@ -155,7 +155,7 @@ module _ {R W E : Type 0} {look : Looks R W E} {made : List ℕ → Made} {start
     pub message_ended : SameTexts of (reading_of history) → (why : Stop) (answer : Result Status IoFault)
         → AfterFetchMessage look old new before mid history (Err why)
         → AfterEnd look.output look.report why mid after answer
-        → LastStep look (tool_of made) start (place_of (source_of new) after) longest_head history answer
+        → EndingStep look (tool_of made) start (place_of (source_of new) after) longest_head history answer
     message_ended same why answer got gives =
         ⊎_elim
         (λ read. message_stops old new mid (settled (source_of old) before mid at read.0) after session same why answer read.1 gives)
@@ -166,7 +166,7 @@ module _ {R W E : Type 0} {look : Looks R W E} {made : List ℕ → Made} {start
         → (why : Stop) (answer : Result Status IoFault)
         → AfterFetchData look old new before mid history (Err why)
         → AfterEnd look.output look.report why mid after answer
-        → LastStep look (tool_of made) start (place_of (source_of new) after) most history answer
+        → EndingStep look (tool_of made) start (place_of (source_of new) after) most history answer
     data_ended most stops why answer got gives =
         ⊎_elim
         (λ read. data_stops old new mid (settled (source_of old) before mid at read.0) most after session stops why answer read.1 gives)
@@ -184,7 +184,7 @@ module _ {R W E : Type 0} {look : Looks R W E} {made : List ℕ → Made} {start
   contact_stops : SameTexts of (reading_of []) → (why : Stop) (answer : Result Status IoFault)
       → AfterOpen look.input old new (Err why)
       → AfterEnd look.output look.report why before after answer
-      → LastStep look (tool_of made) start (place_of (source_of new) after) 6 [] answer
+      → EndingStep look (tool_of made) start (place_of (source_of new) after) 6 [] answer
   contact_stops same (stop.Wire offset fault) answer got gives =
       let kept = same (record { contact = None; entries = []; end = Fault 0 fault }) (rw reading-none (record { contact = refl; entries = refl })) tt in
       wire_fault of is 6 (source_of old) (source_of new) before after at offset fault _ answer got.takes got.size
@@ -204,7 +204,7 @@ module _ {R W E : Type 0} {look : Looks R W E} {made : List ℕ → Made} {start
   pub contact_ended : SameTexts of (reading_of []) → (why : Stop) (answer : Result Status IoFault)
       → AfterFetchContact look old new before mid (Err why)
       → AfterEnd look.output look.report why mid after answer
-      → LastStep look (tool_of made) start (place_of (source_of new) after) 6 [] answer
+      → EndingStep look (tool_of made) start (place_of (source_of new) after) 6 [] answer
   contact_ended same why answer got gives =
       ⊎_elim
       (λ read. contact_stops of is old new mid after (settled (source_of old) before mid at read.0) same why answer read.1 gives)

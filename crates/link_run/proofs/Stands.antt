@@ -3,9 +3,9 @@ use Rattle.std.proofs.Common.{◌≡◌, ℕ, ◌<◌, ◌≤◌, ◌⊎◌, inl
 use Rattle.link_wire.specs.{Limits.window_size, Source.{window_of, Takes, TakesThenStops, IsOver}}
 use Rattle.link_wire.specs.declared.{IoFault.IoFault, Source.Source}
 use Rattle.link_run.specs.Made.{Made, whole_by, shows_fault, tool_of}
-use Rattle.link_run.specs.Run.{Texts, no_texts, ◌then◌, Looks, Devices, Place, devices_at, NoneFailed, HasWritten, AreDue, LastStep, ContinuedStep, EndedRun, AfterStep, answer_of, progress_after}
+use Rattle.link_run.specs.Run.{Texts, no_texts, ◌then◌, Looks, Devices, Place, devices_at, NoneFailed, HasWritten, AreDue, EndingStep, ContinuedStep, EndedRun, AfterStep, answer_of, progress_after}
 use Rattle.link_run.specs.Stages.{IsRunAt, AfterStage, written_by}
-use Rattle.link_run.specs.Writers.{place_of, Writes, WritesPart, AfterWrite, AfterLastWrite, FailedSettle}
+use Rattle.link_run.specs.Writers.{place_of, Writes, FailedWrite, AfterWrite, AfterLastWrite, FailedSettle}
 use Rattle.link_run.specs.declared.{run.Status.Status, writers.Writers.Writers}
 use Rattle.link_run.proofs.Ends.{unshown_sofar, shown_sofar, made_reports, ends_unshown, ends_shown}
 use Rattle.link_run.proofs.Runs.{IsWrittenSoFar, then_none, written_as, written_given, written_on, sound_given, sound_written, all_given, answered, writer_lost, settle_lost, reader_lost}
@@ -68,8 +68,8 @@ module _ {R W E : Type 0} {look : Looks R W E} {made : List ℕ → Made} {start
       }
 
       -- a writer failed in the middle of them
-      pub loses : (fault : IoFault) → WritesPart look.output look.report before after texts fault
-          → LastStep look (tool_of made) start (place_of new after) most history (Err fault)
+      pub loses : (fault : IoFault) → FailedWrite look.output look.report before after texts fault
+          → EndingStep look (tool_of made) start (place_of new after) most history (Err fault)
       loses fault part = record {
         given = given;
         size = size;
@@ -123,7 +123,7 @@ module _ {R W E : Type 0} {look : Looks R W E} {made : List ℕ → Made} {start
 
       pub ends : (answer : Result Status IoFault)
           → AfterLastWrite look.output look.report before after texts (whole_by (made bytes).stop (made bytes)).status answer
-          → LastStep look (tool_of made) start (place_of new after) most history answer
+          → EndingStep look (tool_of made) start (place_of new after) most history answer
       ends answer gives = record {
         given = given;
         size = size;
@@ -139,7 +139,7 @@ module _ {R W E : Type 0} {look : Looks R W E} {made : List ℕ → Made} {start
       → TakesThenStops look.input old new given fault → length given ≤ most
       → written_by begun (made history) ≡ (made (history ++ given)).texts
       → shows_fault (made (history ++ given)).stop ≡ false → answer ≡ Err fault → after ≡ before
-      → LastStep look (tool_of made) start (place_of new after) most history answer
+      → EndingStep look (tool_of made) start (place_of new after) most history answer
   read_fails given after fault answer stops size due unshown is same =
       let bytes = history ++ given in
       rw (is, same) (record {
@@ -168,7 +168,7 @@ module _ {R W E : Type 0} {look : Looks R W E} {made : List ℕ → Made} {start
   -- if handing on fails, no text is lost
   pub not_handed_on : (most : ℕ) (fault : IoFault) → length (window_of source) < window_size
       → FailedSettle look.output look.report before after fault
-      → LastStep look (tool_of made) start (place_of source after) most history (Err fault)
+      → EndingStep look (tool_of made) start (place_of source after) most history (Err fault)
   not_handed_on most fault few part = record {
     given = [];
     size = omega arith;
@@ -183,7 +183,7 @@ module _ {R W E : Type 0} {look : Looks R W E} {made : List ℕ → Made} {start
 pub last_step : {R W E : Type 0} {look : Looks R W E} (made : List ℕ → Made) {start : Devices R W E}
     (old new : Place R W E) (stands : List ℕ → Type 0) {most : ℕ} {history : List ℕ}
     (answer : Result Status IoFault)
-    → LastStep look (tool_of made) start new most history answer
+    → EndingStep look (tool_of made) start new most history answer
     → AfterStep look (tool_of made) start old new stands most history (answer_of answer)
 last_step made old new stands (Ok status) gives = gives
 last_step made old new stands (Err fault) gives = gives

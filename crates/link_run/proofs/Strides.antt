@@ -3,7 +3,7 @@ use Rattle.std.proofs.Common.{◌≡◌, ℕ, ◌+◌, ◌-◌, ◌<◌, ◌≤�
 use Rattle.std.proofs.lemmas.Bool.{cases_lt}
 use Rattle.link_wire.specs.declared.{IoFault.IoFault, Source.Source}
 use Rattle.link_run.specs.Made.{Made, tool_of}
-use Rattle.link_run.specs.Run.{Tool, Looks, Devices, Place, reach_at, ContinuedStep, LastStep, AfterStep, AfterStride}
+use Rattle.link_run.specs.Run.{Tool, Looks, Devices, Place, reach_at, ContinuedStep, EndingStep, AfterStep, AfterStride}
 use Rattle.link_wire.specs.Source.{given_by}
 use Rattle.link_run.specs.{Stages.{IsRunAt, AfterStage, IsMore}, declared.run.Progress.Progress}
 use Rattle.link_run.specs.declared.run.{Progress.TheVariants.{More, Done}, Status.Status}
@@ -49,8 +49,8 @@ module _ {R W E : Type 0} (look : Looks R W E) (tool : Tool) (start : Devices R 
   -- a step that went on, and then the last one
   last_later : {now : Place R W E} {first second : ℕ} {history : List ℕ}
       {answer : Result Status IoFault} (bytes : List ℕ) → length bytes ≤ first
-      → LastStep look tool start now second (history ++ bytes) answer
-      → LastStep look tool start now (first + second) history answer
+      → EndingStep look tool start now second (history ++ bytes) answer
+      → EndingStep look tool start now (first + second) history answer
   last_later {now} {history} {answer} bytes size last =
       let size_later = last.size in
       record {
@@ -77,9 +77,9 @@ module _ {R W E : Type 0} (look : Looks R W E) (tool : Tool) (start : Devices R 
     (old new : Place R W E) (stands : List ℕ → Type 0) {size : ℕ} (most : ℕ) (history : List ℕ)
     (some : 0 < most → 0 < size) (counted : given_by old.source ≡ length history) where
   last_bounded : {answer : Result Status IoFault}
-      → LastStep look tool start new size history answer
+      → EndingStep look tool start new size history answer
       → (bound : ℕ) × (bound ≤ most + (reach_at look.input new.source - given_by old.source))
-      × (0 < most → 0 < bound) × LastStep look tool start new bound history answer
+      × (0 < most → 0 < bound) × EndingStep look tool start new bound history answer
   last_bounded last =
       let count = last.count in
       let sizes = length-append history last.given in (

@@ -10,7 +10,7 @@ use Rattle.link_wire.specs.declared.Source.{Source}
 use Rattle.link_io.specs.{Source.is_open, declared.source.Flow.Flow}
 use Rattle.link_io.proofs.{Sources.fresh_at, Windows.range_none}
 use Rattle.link_run.specs.{Made.{Made, tool_of}, Reading.{ReadsNothing, CallWaits}}
-use Rattle.link_run.specs.Run.{Texts, no_texts, Tool, Looks, Devices, Place, devices_at, reach_at, Wait, Waits, then_waits, noted, waits_by, HasHandedOn, IsWaitOfPlace, IsPrompt, IsPromptWithin, WaitsOnce, LastStep}
+use Rattle.link_run.specs.Run.{Texts, no_texts, Tool, Looks, Devices, Place, devices_at, reach_at, Wait, Waits, then_waits, noted, waits_by, HasHandedOn, IsWaitOfPlace, IsPrompt, IsPromptWithin, WaitsAtMostOnce, EndingStep}
 use Rattle.link_run.specs.WholeRun.{devices_of, ran_of, IsLogOf, AreSpaced, AfterRun, AfterRunFrom}
 use Rattle.link_run.specs.{NewRun.IsNewRun, Stages.IsRunAt, Writers.{place_of, Writes}}
 use Rattle.link_run.specs.declared.input.{Input.Input, Position.Position}
@@ -103,8 +103,8 @@ module _ {R W E : Type 0} {look : Looks R W E} {made : List ℕ → Made} {start
   pub prompt_once : {S : Type 0} (of : S → R) (begun : Bool) (new : Source R)
       {place : Place R W E} {history : List ℕ} {before after : Waits S W E}
       → IsRunAt look made start begun place history → (begun ≡ false → after ≡ before)
-      → WaitsOnce look.input place.source new before after (IsWaitOfPlace look place)
-      → WaitsOnce look.input place.source new (waits_by of before) (waits_by of after)
+      → WaitsAtMostOnce look.input place.source new before after (IsWaitOfPlace look place)
+      → WaitsAtMostOnce look.input place.source new (waits_by of before) (waits_by of after)
       (λ wait. IsWaitOfPlace look place wait × IsPrompt look (tool_of made) start history wait)
   prompt_once of true new stands begins waits =
       ⊎_elim (λ none. inl (ap (waits_by of) none.0, none.1))
@@ -165,7 +165,7 @@ module _ {R W E : Type 0} (look : Looks R W E) (tool : Tool) (start : Devices R 
   pub waited_more : {place : Place R W E} (new : Source R) (given more : List ℕ) (from : ℕ)
       (before now later : Waits R W E)
       → Waited given from (reach_at look.input place.source) before now
-      → WaitsOnce look.input place.source new now later
+      → WaitsAtMostOnce look.input place.source new now later
       (λ wait. IsWaitOfPlace look place wait × IsPrompt look tool start given wait)
       → Waited (given ++ more) from (reach_at look.input new) before later
   waited_more {place} new given more from before now later waited waits =
@@ -195,9 +195,9 @@ module _ {R W E : Type 0} (look : Looks R W E) (tool : Tool) (start : Devices R 
       {answer : Result Status IoFault} (history : List ℕ)
       (end : RunEnd R W E) → devices_of end ≡ devices_at now → end.answer ≡ answer
       → IsLogOf later (devices_of end) (ran_of end)
-      → LastStep look tool start now most history answer
+      → EndingStep look tool start now most history answer
       → Waited history from (reach_at look.input place.source) before between
-      → WaitsOnce look.input place.source now.source between later
+      → WaitsAtMostOnce look.input place.source now.source between later
       (λ wait. IsWaitOfPlace look place wait × IsPrompt look tool start history wait)
       → AfterRunFrom look tool start from before end
   ran_on {now} history end returned answered log last waited waits =

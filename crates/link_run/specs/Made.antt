@@ -44,8 +44,8 @@ shows_fault None = false
 shows_fault (Some stop) = stop.lasts
 
 -- if bytes show a fault, so do all bytes that begin with them
-abbrev pub IsLasting : (List ℕ → Made) → Type 0
-IsLasting made =
+abbrev pub HasLastingFaults : (List ℕ → Made) → Type 0
+HasLastingFaults made =
     (bytes more : List ℕ) → shows_fault (made bytes).stop ≡ true
     → shows_fault (made (bytes ++ more)).stop ≡ true
 

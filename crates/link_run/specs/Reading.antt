@@ -12,7 +12,7 @@ use Rattle.link_wire.specs.declared.{Source.Source, fault.Stop.Stop}
 use Rattle.link_wire.specs.declared.fault.Stop.TheVariants as stop
 use Rattle.link_wire.specs.declared.message.{Contact.Contact, Message.Message, MessageBuffer.MessageBuffer}
 use Rattle.link_wire.specs.declared.session.Session.{Session}
-use Rattle.link_run.specs.Run.{Looks, Waits, IsWaitOfPlace, WaitsOnce}
+use Rattle.link_run.specs.Run.{Looks, Waits, IsWaitOfPlace, WaitsAtMostOnce}
 use Rattle.link_run.specs.Writers.{place_of, on_output, next_line, Writes, FailedSettle}
 use Rattle.link_run.specs.declared.{input.Input.Input, writers.Writers.Writers}
 
@@ -91,7 +91,7 @@ pub record ReadsNothing {S R W E : Type 0} (look : R → Seen) (source : S → S
 abbrev pub CallWaits : {S R W E : Type 0} → Looks R W E → (source : S → Source R)
     → (old new : Input S W E) → (before : Writers W E) → Type 0
 CallWaits look source old new before =
-    WaitsOnce look.input (source (feed_of old)) (source (feed_of new)) (waits_of old) (waits_of new)
+    WaitsAtMostOnce look.input (source (feed_of old)) (source (feed_of new)) (waits_of old) (waits_of new)
     (IsWaitOfPlace look (place_of (source (feed_of old)) before))
 
 -- the same for a call of a session

@@ -87,7 +87,7 @@ progress_after (Err fault) = Err fault
 -- The first `report_count` bytes of the report are not ahead of the output. Some prefix of the
 -- bytes given determines at least that much of the report. The first `output_count` bytes of the
 -- output include all output that this prefix determines.
-pub record IsBehind (tool : Tool) (given : List ℕ) (output_count report_count : ℕ) : Type 0 where
+pub record IsReportBehind (tool : Tool) (given : List ℕ) (output_count report_count : ℕ) : Type 0 where
   pub front : List ℕ
   pub rest : List ℕ
   pub parts : given ≡ front ++ rest
@@ -168,9 +168,9 @@ module _ {R W E : Type 0} (look : Looks R W E) where
 
 -- There was at most one wait, and `is` holds of it. When it ended, the input was at hand as far as
 -- it is now. If there was none, nothing was read.
-abbrev pub WaitsOnce : {R S W E : Type 0} → (R → Input) → (old new : Source R)
+abbrev pub WaitsAtMostOnce : {R S W E : Type 0} → (R → Input) → (old new : Source R)
     → (before after : Waits S W E) → (is : Wait W E → Type 0) → Type 0
-WaitsOnce {W} {E} look old new before after is =
+WaitsAtMostOnce {W} {E} look old new before after is =
     ((after ≡ before) × (reach look new ≡ reach look old))
     ⊎ ((wait : Wait W E) × (after ≡ noted before wait) × (wait.reach ≡ reach_at look new) × is wait)
 
@@ -179,7 +179,7 @@ WaitsOnce {W} {E} look old new before after is =
 abbrev pub StepWaits : {R W E : Type 0} → Looks R W E → Tool → (start : Devices R W E)
     → (given : List ℕ) → (old new : Place R W E) → (before after : Waits R W E) → Type 0
 StepWaits look tool start given old new before after =
-    WaitsOnce look.input old.source new.source before after
+    WaitsAtMostOnce look.input old.source new.source before after
     (λ wait. IsWaitOfPlace look old wait × IsPrompt look tool start given wait)
 
 -- No proper prefix of the bytes shows a fault: nothing is given after one is shown.
@@ -272,11 +272,11 @@ module _ {R W E : Type 0} (look : Looks R W E) where
 
   -- Exactly one writer failed. If it is the output, no line of the report is about bytes that the
   -- output lacks. If it is the report, the output is whole.
-  abbrev pub IsLost : Tool → Devices R W E → (given : List ℕ) → (due : Texts)
+  abbrev pub HasLostOneWriter : Tool → Devices R W E → (given : List ℕ) → (due : Texts)
       → (output_count report_count : ℕ) → Type 0
-  IsLost tool now given due output_count report_count =
+  HasLostOneWriter tool now given due output_count report_count =
       (((look.output now.output).failed ≡ true) × ((look.report now.report).failed ≡ false)
-      × ((report_count ≡ 0) ⊎ IsBehind tool given output_count report_count))
+      × ((report_count ≡ 0) ⊎ IsReportBehind tool given output_count report_count))
       ⊎ (((look.report now.report).failed ≡ true) × ((look.output now.output).failed ≡ false)
       × (length due.output ≤ output_count))
 
@@ -295,7 +295,7 @@ module _ {R W E : Type 0} (look : Looks R W E) where
     pub written : HasWrittenAtEnd start now (given ++ unread)
         (record { output = take output_count due.output; report = take report_count due.report })
     pub reader : (look.input now.reader).failed ≡ false
-    pub failed : IsLost tool now given due output_count report_count
+    pub failed : HasLostOneWriter tool now given due output_count report_count
     pub unended : tool.shows given ≡ true
         → (output_count < length due.output)
         ⊎ (((look.report now.report).failed ≡ true) × (report_count < length due.report))
@@ -317,7 +317,7 @@ module _ {R W E : Type 0} (look : Looks R W E) where
   EndedRun tool start now given (Err fault) = FailedRun tool start now given fault
 
   -- a step was the last of its run, and was given at most `most` bytes
-  pub record LastStep (tool : Tool) (start : Devices R W E) (now : Place R W E) (most : ℕ)
+  pub record EndingStep (tool : Tool) (start : Devices R W E) (now : Place R W E) (most : ℕ)
       (history : List ℕ) (answer : Result Status IoFault) : Type 0 where
     pub given : List ℕ
     pub size : length given ≤ most
@@ -331,9 +331,9 @@ module _ {R W E : Type 0} (look : Looks R W E) where
   AfterStep tool start old new stands most history (Ok More) =
       ContinuedStep old.source new.source stands most history
   AfterStep tool start old new stands most history (Ok (Done status)) =
-      LastStep tool start new most history (Ok status)
+      EndingStep tool start new most history (Ok status)
   AfterStep tool start old new stands most history (Err fault) =
-      LastStep tool start new most history (Err fault)
+      EndingStep tool start new most history (Err fault)
 
   -- What holds after a stride: the same as after a step, but with another bound. A stride is given
   -- at most the bytes of one step, and those that were at hand when its wait ended.

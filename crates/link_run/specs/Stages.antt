@@ -3,7 +3,7 @@ use Rattle.std.specs.Prelude.{◌≡◌, ℕ, ◌+◌, ◌-◌, ◌<◌, ◌≤�
 use Rattle.link_wire.specs.Source.{given_by}
 use Rattle.link_wire.specs.declared.IoFault.{IoFault}
 use Rattle.link_run.specs.Run.{Texts, no_texts, Looks, Devices, Place, devices_at, NoneFailed, HasWritten, AfterStep, answer_of, reach_at}
-use Rattle.link_run.specs.Made.{Made, IsLasting, shows_fault, tool_of}
+use Rattle.link_run.specs.Made.{Made, HasLastingFaults, shows_fault, tool_of}
 use Rattle.link_run.specs.declared.run.{Progress.Progress, Progress.TheVariants.More, Status.Status}
 
 -- the texts that a run has written: none before it has begun
@@ -18,13 +18,13 @@ pub record IsRunAt {R W E : Type 0} (look : Looks R W E) (made : List ℕ → Ma
   pub written : HasWritten look start now history (written_by begun (made history))
   pub sound : NoneFailed look (devices_at now)
   pub unshown : shows_fault (made history).stop ≡ false
-  pub lasting : IsLasting made
+  pub lasting : HasLastingFaults made
 
 -- before the first byte, nothing is written, and no fault is shown
-pub record MayBegin (made : List ℕ → Made) (begun : Bool) : Type 0 where
+pub record HasEmptyStart (made : List ℕ → Made) (begun : Bool) : Type 0 where
   pub texts : written_by begun (made []) ≡ no_texts
   pub unshown : shows_fault (made []).stop ≡ false
-  pub lasting : IsLasting made
+  pub lasting : HasLastingFaults made
 
 -- what holds after a step; if it is not the last, `IsRunAt` and `knows` hold of the bytes so far
 abbrev pub AfterStage : {R W E : Type 0} → Looks R W E → (made : List ℕ → Made)

@@ -59,7 +59,7 @@ module _ {W E : Type 0} (out_look : W → Output) (report_look : E → Output) w
 
   -- A writer failed after a prefix of each of these texts was written. The output is written before
   -- the report.
-  pub record WritesPart (old new : Writers W E) (texts : Texts) (fault : IoFault) : Type 0 where
+  pub record FailedWrite (old new : Writers W E) (texts : Texts) (fault : IoFault) : Type 0 where
     pub kind : fault ≡ io.Write
     pub output_count : ℕ
     pub report_count : ℕ
@@ -73,13 +73,13 @@ module _ {W E : Type 0} (out_look : W → Output) (report_look : E → Output) w
   -- these texts were written, or a writer failed while writing them
   abbrev pub AfterWrite : Writers W E → Writers W E → Texts → Result (Unit {0}) IoFault → Type 0
   AfterWrite old new texts (Ok done) = Writes old new texts
-  AfterWrite old new texts (Err fault) = WritesPart old new texts fault
+  AfterWrite old new texts (Err fault) = FailedWrite old new texts fault
 
   -- these texts were written, and the run ends with this status; or a writer failed
   abbrev pub AfterLastWrite : Writers W E → Writers W E → Texts → (status : ℕ)
       → Result Status IoFault → Type 0
   AfterLastWrite old new texts status (Ok ended) = Writes old new texts × (ended.0 ≡ status)
-  AfterLastWrite old new texts status (Err fault) = WritesPart old new texts fault
+  AfterLastWrite old new texts status (Err fault) = FailedWrite old new texts fault
 
   -- A fault of the wire got its line in the report and the status 3, or a writer failed. Any other
   -- failure is returned as it is, and nothing was written.

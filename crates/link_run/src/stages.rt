@@ -100,14 +100,14 @@ pub struct ToolRun<S: Feed, W: OutDevice, E: OutDevice, T: Stages<S, W, E>> {
 impl<S: Feed, W: OutDevice, E: OutDevice, T: Stages<S, W, E> + Drop> ToolRun<S, W, E, T> {
     ghost use Rattle.link_wire.specs.Source.{is_fresh, reader_of};
     ghost use Rattle.link_run.specs.Run.{NoneFailed, devices};
-    ghost use Rattle.link_run.specs.Stages.{MayBegin};
+    ghost use Rattle.link_run.specs.Stages.{HasEmptyStart};
     ghost use Rattle.link_run.specs.NewRun.{IsNewRun};
 
     /// Makes a run that has read and written nothing.
     pub fn new(tool: T, feed: S, output: W, report: E) -> ToolRun<S, W, E, T>
         requires fits { IsTrue (T.fits tool feed) }
         requires knows { T.knows tool feed [] }
-        requires begins { MayBegin (T.made tool) (T.begun tool) }
+        requires begins { HasEmptyStart (T.made tool) (T.begun tool) }
         requires fresh { IsTrue (is_fresh (S.source feed)) }
         requires sound { NoneFailed (looks S.Reader.state W.state E.state)
             (devices (reader_of (S.source feed)) output report) }

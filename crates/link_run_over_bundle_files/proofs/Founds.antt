@@ -10,7 +10,7 @@ use Rattle.link_report.specs.declared.fault.Fault.{Fault}
 use Rattle.link_run.specs.Made.{Made, shows_fault, with_fault}
 use Rattle.link_run.specs.Run.{Texts, ◌then◌, Looks, Devices, answer_of, progress_after}
 use Rattle.link_run.specs.Stages.{IsRunAt, AfterStage, written_by}
-use Rattle.link_run.specs.Writers.{place_of, AfterLastWrite, on_report, Writes, WritesPart, AfterWrite}
+use Rattle.link_run.specs.Writers.{place_of, AfterLastWrite, on_report, Writes, FailedWrite, AfterWrite}
 use Rattle.link_run.specs.declared.run.{Progress.Progress, Status.Status}
 use Rattle.link_run.specs.declared.writers.Writers.{Writers}
 use Rattle.link_run.proofs.Runs.{few_over, then_assoc, writes_then, part_of_more}
@@ -95,8 +95,8 @@ module _ {W E : Type 0} (out_look : W → Output) (report_look : E → Output) w
   -- the report failed in a line, after these texts were written
   line_behind : (old mid new : Writers W E) (first : Texts) (line : List ℕ) (fault : IoFault)
       → Writes out_look report_look old mid first
-      → WritesPart out_look report_look mid new (on_report line) fault
-      → WritesPart out_look report_look old new (first then on_report line) fault
+      → FailedWrite out_look report_look mid new (on_report line) fault
+      → FailedWrite out_look report_look old new (first then on_report line) fault
   line_behind old mid new first line fault one part = record {
     kind = part.kind;
     output_count = length first.output + part.output_count;

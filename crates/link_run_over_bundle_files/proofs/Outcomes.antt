@@ -4,8 +4,8 @@ use Rattle.std.proofs.lemmas.Bool.{false≢true}
 use Rattle.link_bundle_blocks.specs.Bundle.{verdict}
 use Rattle.link_bundle_types.specs.declared.fault.BundleFault.{BundleFault}
 use Rattle.link_bundle_types.specs.declared.info.BundleInfo.{BundleInfo}
-use Rattle.link_run.specs.{Made.{Made, IsLasting, whole_by, shows_fault}, Run.Outcome}
-use Rattle.link_run.specs.Stages.{MayBegin}
+use Rattle.link_run.specs.{Made.{Made, HasLastingFaults, whole_by, shows_fault}, Run.Outcome}
+use Rattle.link_run.specs.Stages.{HasEmptyStart}
 use Rattle.link_run_over_bundle_files.specs.Bundles.{Packed, Rest, Divided, IsOpen, divided, with_bundles}
 use Rattle.link_run_over_bundle_files.specs.Telling.{BundleTelling, SoFar, stop_by, accepted_in, told_by, told_of}
 use Rattle.link_run_over_bundle_files.specs.BundleRun.{fault_of, cut_at, ended_by}
@@ -118,7 +118,7 @@ module _ (telling : BundleTelling) where
           ap (told_by telling)
           (divided_same telling.limit history now.bundles now.begun divides rest all more)
 
-  pub lasting_told : IsLasting (told_of telling)
+  pub lasting_told : HasLastingFaults (told_of telling)
   lasting_told bytes more shown =
       let parts = stays_divided telling.limit bytes in
       let now : SoFar = record { bundles = parts.bundles; begun = parts.begun } in
@@ -129,5 +129,5 @@ module _ (telling : BundleTelling) where
       absurd (false≢true (sym (unshown_going bytes now parts.divides opened) ∙ shown)))
       parts.last
 
-  pub may_begin : MayBegin (told_of telling) false
+  pub may_begin : HasEmptyStart (told_of telling) false
   may_begin = record { texts = refl; unshown = rw told_none refl; lasting = lasting_told }

@@ -20,7 +20,7 @@ use Rattle.link_transfer.proofs.Continuing.{continues_open, may_continue, joiner
 use Rattle.link_report.specs.{Fault.fault_text, declared.fault.Fault.TheVariants.Order}
 use Rattle.link_run.specs.Made.{shows_fault, stop_of, tool_of}
 use Rattle.link_run.specs.{Next.next_of, Reading.feed_of}
-use Rattle.link_run.specs.Run.{◌then◌, Looks, Devices, LastStep}
+use Rattle.link_run.specs.Run.{◌then◌, Looks, Devices, EndingStep}
 use Rattle.link_run.specs.Writers.{place_of, on_report, AfterLastWrite}
 use Rattle.link_run.specs.declared.{next.Next.Next, run.Status.Status, writers.Writers.Writers}
 use Rattle.link_run.specs.declared.next.Next.TheVariants as next
@@ -282,7 +282,7 @@ module _ {R W E : Type 0} {look : Looks R W E} {start : Devices R W E} (telling 
   -- the stream has ended between two messages
   pub finished : ReachedEnd look.input old new history → (answer : Result Status IoFault)
       → TellsEnd look.output look.report telling here.taken here.events before after answer
-      → LastStep look (tool_of (told_of telling)) start (place_of (source_of new) after)
+      → EndingStep look (tool_of (told_of telling)) start (place_of (source_of new) after)
       longest_head history answer
   finished got answer gives =
       let same : told_of telling (history ++ []) ≡ by_reading telling (reading_of history) =
@@ -304,7 +304,7 @@ module _ {R W E : Type 0} {look : Looks R W E} {start : Devices R W E} (telling 
       → (answer : Result Status IoFault)
       → AfterLastWrite look.output look.report before after
       (on_report (fault_text (Order offset fault))) 3 answer
-      → LastStep look (tool_of (told_of telling)) start (place_of (source_of new) after)
+      → EndingStep look (tool_of (told_of telling)) start (place_of (source_of new) after)
       longest_head history answer
   refused {offset} got clean fault is stays answer gives =
       let bytes = history ++ got.given in

@@ -9,7 +9,7 @@ use Rattle.link_wire.specs.declared.session.Session.{Session}
 use Rattle.link_wire.proofs.Contacts.{reading-none}
 use Rattle.link_transfer.specs.{declared.fault.OrderFault.OrderFault}
 use Rattle.link_transfer.specs.declared.joiner.Joiner.{Joiner}
-use Rattle.link_run.specs.Made.{Made, IsLasting, shows_fault, stop_of}
+use Rattle.link_run.specs.Made.{Made, HasLastingFaults, shows_fault, stop_of}
 use Rattle.link_run.proofs.Continued.{LastGoesOn, ReadingGoesOn, reading_on}
 use Rattle.link_run.proofs.Sessions.{IsUncut, SameTexts}
 use Rattle.link_run_over_transfers.specs.Walk.{WalkEvent, Walked, with_entry_unless, with_next, none_walked, walked_of, walked, Telling, stop_by, told_by, told_of}
@@ -205,6 +205,6 @@ module _ (telling : Telling) (bytes more : List ℕ) where
   made_stays shown = stays_by (walked telling.manner (reading_of bytes)).refused refl shown
 
 -- a fault that is shown stays the same
-pub told_lasts : (telling : Telling) → IsLasting (told_of telling)
+pub told_lasts : (telling : Telling) → HasLastingFaults (told_of telling)
 told_lasts telling bytes more shown =
     ap (λ (m : Made). shows_fault m.stop) (made_stays telling bytes more shown) ∙ shown

@@ -16,7 +16,7 @@ use Rattle.link_transfer.specs.declared.joiner.Turn.{Turn}
 use Rattle.link_report.specs.Fault.{fault_text}
 use Rattle.link_report.specs.declared.fault.Fault.TheVariants.{Order}
 use Rattle.link_run.specs.Made.{tool_of}
-use Rattle.link_run.specs.Run.{Texts, ◌then◌, Looks, Devices, Place, devices_at, EndedRun, HasNoEarlierFault, ContinuedStep, LastStep, AfterStep}
+use Rattle.link_run.specs.Run.{Texts, ◌then◌, Looks, Devices, Place, devices_at, EndedRun, HasNoEarlierFault, ContinuedStep, EndingStep, AfterStep}
 use Rattle.link_run.specs.Next.{next_of, progress_of}
 use Rattle.link_run.specs.Reading.{feed_of, SessionWaits}
 use Rattle.link_run.specs.Stages.{IsRunAt}
@@ -201,7 +201,7 @@ module _ {R W E C : Type 0} (look : Looks R W E) (start : Devices R W E) (tellin
       (λ bytes. IsWalkRunAt later new after joiner consumer bytes
       × HasNoDataYet now (reading_of bytes).end) (most_by piece now) history
   AfterWalkStep piece now old new after joiner consumer history (next.Ended answer) =
-      LastStep look (tool_of (told_of telling)) start (place_of (source_of new) after)
+      EndingStep look (tool_of (told_of telling)) start (place_of (source_of new) after)
       (most_by piece now) history answer
 
   -- the state of the walk if a stage comes next

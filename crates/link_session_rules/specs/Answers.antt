@@ -5,7 +5,7 @@ use Rattle.std.specs.{List.list_any, Option.option_and_then}
 use Rattle.link_wire.specs.Codes.{is_start, is_end}
 use Rattle.link_wire.specs.declared.message.Message.{Message}
 use Rattle.link_wire.specs.declared.message.Message.TheVariants as message
-use Rattle.link_session_rules.specs.Heads.{JudgedHead, newest, is_sess_init}
+use Rattle.link_session_rules.specs.Heads.{HeadWithJudgement, newest, is_sess_init}
 use Rattle.link_session_rules.specs.declared.answers.Ack.{Ack}
 use Rattle.link_session_rules.specs.declared.rule.{AnswerFault.AnswerFault, MessageRule.MessageRule}
 use Rattle.link_session_rules.specs.declared.rule.AnswerFault.TheVariants.{NotTheLast, StartRepeats, AfterEnd, AfterRefusal, RefusedAfterEnd}
@@ -43,7 +43,7 @@ if_less id size last =
 -- ack-length: within a transfer, the acknowledged length does not decrease (section 5.2.3). It may
 -- decrease in an XFER_ACK of the first segment of a transfer, which has START, or of another
 -- transfer.
-unfoldable pub ack_length : List JudgedHead → Message → Option MessageRule
+unfoldable pub ack_length : List HeadWithJudgement → Message → Option MessageRule
 ack_length before (message.Ack flags id size) =
     if is_start flags then None else option_and_then (if_less id size) (last_ack (newest before))
 ack_length before _ = None
@@ -95,7 +95,7 @@ answered_id _ = 0
 -- answer-order: the segments of one transfer after another are acknowledged, each once, and a
 -- transfer is refused before its end is acknowledged (sections 5.2.3 and 5.2.4). Answers before a
 -- SESS_INIT are not judged.
-unfoldable pub answer_order : List JudgedHead → Message → Option MessageRule
+unfoldable pub answer_order : List HeadWithJudgement → Message → Option MessageRule
 answer_order before message =
     option_and_then
     (λ fault. if list_any is_sess_init (newest before)

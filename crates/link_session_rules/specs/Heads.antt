@@ -10,7 +10,7 @@ use Rattle.link_transfer.specs.declared.{fault.OrderFault.OrderFault, joiner.Tur
 use Rattle.link_session_rules.specs.declared.{head.JudgedHeadView.JudgedHeadView, session.Parameters.Parameters}
 
 -- the head of a message, with the judgement of its order
-pub record JudgedHead : Type 0 where
+pub record HeadWithJudgement : Type 0 where
   pub message : Message
   -- why the message is not in order, if it is not
   pub fault : Option OrderFault
@@ -18,16 +18,16 @@ pub record JudgedHead : Type 0 where
   pub turn : Option Turn
 
 -- the judged head that a view shows
-abbrev pub viewed_head : JudgedHeadView → JudgedHead
+abbrev pub viewed_head : JudgedHeadView → HeadWithJudgement
 viewed_head head =
     record { message = message_of head.message.now; fault = head.fault; turn = head.turn }
 
 -- the messages of these heads, in order
-abbrev pub messages_of : List JudgedHead → List Message
+abbrev pub messages_of : List HeadWithJudgement → List Message
 messages_of heads = map (λ head. head.message) heads
 
 -- the messages of these heads, the newest first
-abbrev pub newest : List JudgedHead → List Message
+abbrev pub newest : List HeadWithJudgement → List Message
 newest heads = reverse (messages_of heads)
 
 -- Whether a test passed at one of these messages, which are in a list, the newest first. The test

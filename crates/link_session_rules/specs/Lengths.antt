@@ -6,7 +6,7 @@ use Rattle.link_transfer.specs.Announced.{announced_of}
 use Rattle.link_transfer.specs.declared.announcement.Announced.{Announced}
 use Rattle.link_transfer.specs.declared.{announcement.Announced.TheVariants.Total, joiner.Turn.Turn}
 use Rattle.link_transfer.specs.declared.joiner.Turn.TheVariants as turn
-use Rattle.link_session_rules.specs.Heads.{JudgedHead, segment_of}
+use Rattle.link_session_rules.specs.Heads.{HeadWithJudgement, segment_of}
 use Rattle.link_session_rules.specs.declared.rule.MessageRule.{MessageRule}
 use Rattle.link_session_rules.specs.declared.rule.MessageRule.TheVariants.{PeerSegment, PeerTransferAnnounced, PeerTransferLength}
 
@@ -42,14 +42,14 @@ joined _ earlier so_far = so_far
 
 -- the segments of the transfer that began last, by all heads so far, in a list that has the newest
 -- first
-abbrev pub segments_back : List JudgedHead → List SegmentHead
+abbrev pub segments_back : List HeadWithJudgement → List SegmentHead
 segments_back [] = []
 segments_back (head ∷ older) =
     let so_far = segments_back older in
     joined (segment_of head.message) (earlier_of head.turn so_far) so_far
 
 -- the segments of the transfer that began last, by all heads in order
-abbrev pub segments_of : List JudgedHead → List SegmentHead
+abbrev pub segments_of : List HeadWithJudgement → List SegmentHead
 segments_of heads = segments_back (reverse heads)
 
 -- the first segment of a transfer that has `segment` and the segments before it: the last of
@@ -92,7 +92,7 @@ abbrev pub announced_first : SegmentHead → (earlier : List SegmentHead) → An
 announced_first segment earlier = announced_of (first_segment segment earlier).items.items
 
 -- the rule that a segment with this turn breaks after these heads; a stray one breaks none
-abbrev pub exceeded : (limit : ℕ) → List JudgedHead → Option Turn → SegmentHead
+abbrev pub exceeded : (limit : ℕ) → List HeadWithJudgement → Option Turn → SegmentHead
     → Option MessageRule
 exceeded limit before turn segment =
     option_and_then
@@ -102,7 +102,7 @@ exceeded limit before turn segment =
 -- peer-transfer: a transfer is no longer than the peer's Transfer MRU (section 4.6), if this is
 -- known. A transfer breaks it once: with the length that it announces, or else with the segment
 -- that takes its data beyond the limit.
-unfoldable pub peer_transfer : (limit : Option ℕ) → List JudgedHead → JudgedHead
+unfoldable pub peer_transfer : (limit : Option ℕ) → List HeadWithJudgement → HeadWithJudgement
     → Option MessageRule
 peer_transfer None before head = None
 peer_transfer (Some limit) before head =

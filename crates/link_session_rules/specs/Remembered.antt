@@ -5,7 +5,7 @@ use Rattle.std.specs.List.{list_any, after_first, cons_option}
 use Rattle.link_wire.specs.declared.message.{SegmentHead.SegmentHead, Message.Message}
 use Rattle.link_session_rules.specs.Answers.{last_ack, last_refused, is_acked_since}
 use Rattle.link_session_rules.specs.Endings.{rejects_type, follows, begins_after}
-use Rattle.link_session_rules.specs.Heads.{JudgedHead, messages_of, newest, held, is_sess_init, is_sess_term, is_keepalive, disables_keepalive, is_of_transfer}
+use Rattle.link_session_rules.specs.Heads.{HeadWithJudgement, messages_of, newest, held, is_sess_init, is_sess_term, is_keepalive, disables_keepalive, is_of_transfer}
 use Rattle.link_session_rules.specs.Lengths.{segments_of, first_segment, size_of}
 use Rattle.link_session_rules.specs.Session.{first_parameters}
 use Rattle.link_session_rules.specs.TransferIds.{last_runs, jumps}
@@ -105,7 +105,7 @@ so_far_of (segment ∷ earlier) = Some (record {
 })
 
 -- the history keeps what the rules need of exactly these heads
-pub record IsMessageHistoryAt (history : MessageHistory) (heads : List JudgedHead) : Type 0 where
+pub record IsMessageHistoryAt (history : MessageHistory) (heads : List HeadWithJudgement) : Type 0 where
   pub parameters : history.parameters ≡ first_parameters (messages_of heads)
   pub session : history.session ≡ session_of (messages_of heads)
   pub keepalives : history.keepalives ≡ keepalives_of (messages_of heads)

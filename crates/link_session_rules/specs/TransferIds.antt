@@ -4,7 +4,7 @@ use Rattle.std.specs.{List.list_any, Option.option_and_then}
 use Rattle.link_wire.specs.declared.message.{SegmentHead.SegmentHead, Message.Message}
 use Rattle.link_transfer.specs.declared.joiner.Turn.{Turn}
 use Rattle.link_transfer.specs.declared.joiner.Turn.TheVariants as turn
-use Rattle.link_session_rules.specs.Heads.{JudgedHead, newest, held, is_sess_init, segment_of, start_id}
+use Rattle.link_session_rules.specs.Heads.{HeadWithJudgement, newest, held, is_sess_init, segment_of, start_id}
 use Rattle.link_session_rules.specs.declared.rule.MessageRule.{MessageRule}
 use Rattle.link_session_rules.specs.declared.rule.MessageRule.TheVariants.{Interleaved, TransferId, TransferIdOrder}
 
@@ -22,7 +22,7 @@ if_another segment open_id =
 
 -- interleaved: a transfer does not begin while one of another ID is open (sections 5.2 and 5.2.2).
 -- The receiver may have refused the open one, which only the other recording shows.
-unfoldable pub interleaved : JudgedHead → Option MessageRule
+unfoldable pub interleaved : HeadWithJudgement → Option MessageRule
 interleaved head =
     option_and_then (λ segment. option_and_then (if_another segment) (abandoned_by head.turn))
     (segment_of head.message)
@@ -60,7 +60,7 @@ abbrev pub if_in : List (List ℕ) → (id : ℕ) → Option MessageRule
 if_in runs id = if is_in runs id then Some (TransferId id) else None
 
 -- transfer-id: the ID of a transfer is new (section 5.2.1), as far as the last 64 runs of IDs show
-unfoldable pub transfer_id : List JudgedHead → Message → Option MessageRule
+unfoldable pub transfer_id : List HeadWithJudgement → Message → Option MessageRule
 transfer_id before message =
     option_and_then (if_in (last_runs (newest before))) (start_id message)
 
@@ -84,7 +84,7 @@ jumps older message = jumps_to older (start_id message)
 
 -- transfer-id-order: the first transfer ID is 0, and each later one is one more than the one before
 -- it (section 5.2.1). The first START that breaks this counts, and no other.
-unfoldable pub transfer_id_order : List JudgedHead → Message → Option MessageRule
+unfoldable pub transfer_id_order : List HeadWithJudgement → Message → Option MessageRule
 transfer_id_order before message =
     let older = newest before in
     option_and_then

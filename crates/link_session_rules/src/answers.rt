@@ -36,7 +36,7 @@ impl Answers {
     ghost use Rattle.std.specs.List.{list_any};
     ghost use Rattle.link_wire.specs.declared.message.Message.{Message};
     ghost use Rattle.link_wire.specs.MessageBuffer.{message_of};
-    ghost use Rattle.link_session_rules.specs.Heads.{JudgedHead, newest, is_sess_init};
+    ghost use Rattle.link_session_rules.specs.Heads.{HeadWithJudgement, newest, is_sess_init};
     ghost use Rattle.link_session_rules.specs.Answers.{is_acked, is_refused, has_ended, fault_of_later, answer_fault, answer_order, ack_length};
     ghost use Rattle.link_session_rules.specs.Remembered.{AreAnswersAt};
 
@@ -149,7 +149,7 @@ impl Answers {
         initiated: bool,
         message: &MessageBuffer,
     ) -> Option<MessageRule>
-        ensures { (before : List JudgedHead) → initiated ≡ list_any is_sess_init (newest before)
+        ensures { (before : List HeadWithJudgement) → initiated ≡ list_any is_sess_init (newest before)
             → AreAnswersAt self.now (newest before)
             → result ≡ answer_order before (message_of message.now) }
     {
@@ -165,7 +165,7 @@ impl Answers {
     #[tactic(auto, unfolding(crate::specs::Answers::ack_length))]
     #[inline(always)]
     pub(crate) fn ack_length(&self, message: &MessageBuffer) -> Option<MessageRule>
-        ensures { (before : List JudgedHead) → AreAnswersAt self.now (newest before)
+        ensures { (before : List HeadWithJudgement) → AreAnswersAt self.now (newest before)
             → result ≡ ack_length before (message_of message.now) }
     {
         let Fields::Ack { flags, id, length } = message.fields else {

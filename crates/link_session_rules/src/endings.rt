@@ -41,7 +41,7 @@ impl Endings {
     ghost use Rattle.std.specs.List.{list_any};
     ghost use Rattle.link_wire.specs.declared.message.Message.{Message};
     ghost use Rattle.link_wire.specs.MessageBuffer.{message_of};
-    ghost use Rattle.link_session_rules.specs.Heads.{JudgedHead, newest, is_sess_init};
+    ghost use Rattle.link_session_rules.specs.Heads.{HeadWithJudgement, newest, is_sess_init};
     ghost use Rattle.link_session_rules.specs.Endings.{after_reject, term_order};
     ghost use Rattle.link_session_rules.specs.Remembered.{AreEndingsAt};
 
@@ -85,7 +85,7 @@ impl Endings {
     /// The rule of messages after a MSG_REJECT that says that a type is unknown, if it is broken.
     #[tactic(auto, unfolding(crate::specs::Endings::after_reject))]
     pub(crate) fn after_reject(&self, message: &MessageBuffer) -> Option<MessageRule>
-        ensures { (before : List JudgedHead) → AreEndingsAt self.now (newest before)
+        ensures { (before : List HeadWithJudgement) → AreEndingsAt self.now (newest before)
             → result ≡ after_reject before (message_of message.now) }
     {
         if !self.rejected {
@@ -108,7 +108,7 @@ impl Endings {
     /// `initiated` is whether a SESS_INIT came before the message.
     #[tactic(auto, unfolding(crate::specs::Endings::term_order))]
     pub(crate) fn term_order(&self, initiated: bool, message: &MessageBuffer) -> Option<MessageRule>
-        ensures { (before : List JudgedHead) → initiated ≡ list_any is_sess_init (newest before)
+        ensures { (before : List HeadWithJudgement) → initiated ≡ list_any is_sess_init (newest before)
             → AreEndingsAt self.now (newest before)
             → result ≡ term_order before (message_of message.now) }
     {

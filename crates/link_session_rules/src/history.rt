@@ -48,7 +48,7 @@ impl MessageHistory {
     ghost use Rattle.std.specs.Prelude.{◌≡◌, ℕ, true, false, List, [], ◌∷◌, ◌++◌};
     ghost use Rattle.link_wire.specs.MessageBuffer.{SegmentTotalsFit, message_of};
     ghost use Rattle.std.specs.List.{list_any};
-    ghost use Rattle.link_session_rules.specs.Heads.{JudgedHead, viewed_head, newest, is_sess_init};
+    ghost use Rattle.link_session_rules.specs.Heads.{HeadWithJudgement, viewed_head, newest, is_sess_init};
     ghost use Rattle.link_session_rules.specs.MessageRules.{broken_rules};
     ghost use Rattle.link_session_rules.specs.Kept.{AreAnswerRulesKept, AreSegmentRulesKept, inner_head};
     ghost use Rattle.link_session_rules.specs.Remembered.{IsMessageHistoryAt};
@@ -75,7 +75,7 @@ impl MessageHistory {
     #[inline(always)]
     pub fn keeps_rules(&self, limits: &PeerLimits, head: &JudgedHeadView<'_>) -> bool
         requires { SegmentTotalsFit head.now.message.now }
-        ensures { (before : List JudgedHead) → IsMessageHistoryAt self.now before → result ≡ true
+        ensures { (before : List HeadWithJudgement) → IsMessageHistoryAt self.now before → result ≡ true
             → broken_rules limits.now before (viewed_head head.now) ≡ [] }
     {
         if head.fault.is_some() {
@@ -97,7 +97,7 @@ impl MessageHistory {
     #[tactic(auto, using(crate::proofs::Pushes::initiated_by))]
     #[inline(always)]
     fn is_initiated(&self) -> bool
-        ensures { (before : List JudgedHead) → IsMessageHistoryAt self.now before
+        ensures { (before : List HeadWithJudgement) → IsMessageHistoryAt self.now before
             → result ≡ list_any is_sess_init (newest before) }
     {
         self.parameters.is_some()
@@ -107,7 +107,7 @@ impl MessageHistory {
     /// messages.
     #[inline(always)]
     fn keeps_answer_rules(&self, message: &MessageBuffer) -> bool
-        ensures { (before : List JudgedHead) → IsMessageHistoryAt self.now before → result ≡ true
+        ensures { (before : List HeadWithJudgement) → IsMessageHistoryAt self.now before → result ≡ true
             → AreAnswerRulesKept before (message_of message.now) }
     {
         let initiated = self.is_initiated();
@@ -130,7 +130,7 @@ impl MessageHistory {
     #[inline(always)]
     fn keeps_segment_rules(&self, limits: &PeerLimits, head: &JudgedHeadView<'_>) -> bool
         requires { SegmentTotalsFit head.now.message.now }
-        ensures { (before : List JudgedHead) → IsMessageHistoryAt self.now before → result ≡ true
+        ensures { (before : List HeadWithJudgement) → IsMessageHistoryAt self.now before → result ≡ true
             → AreSegmentRulesKept limits.now before (viewed_head head.now) }
     {
         let message = head.message;
@@ -164,7 +164,7 @@ impl MessageHistory {
     #[inline(never)]
     pub fn rules(&self, limits: &PeerLimits, head: &JudgedHeadView<'_>) -> BrokenRules
         requires { SegmentTotalsFit head.now.message.now }
-        ensures { (before : List JudgedHead) → IsMessageHistoryAt self.now before
+        ensures { (before : List HeadWithJudgement) → IsMessageHistoryAt self.now before
             → result.items ≡ broken_rules limits.now before (viewed_head head.now) }
     {
         let message = head.message;
@@ -202,9 +202,9 @@ impl MessageHistory {
     #[tactic(auto, using(crate::proofs::Kept::none_if, crate::proofs::Inner::inner_kept))]
     #[inline(always)]
     pub fn take_inner(&mut self, limits: &PeerLimits, length: u64) -> bool
-        ensures kept { (id : ℕ) (before : List JudgedHead) → IsMessageHistoryAt self.old before
+        ensures kept { (id : ℕ) (before : List HeadWithJudgement) → IsMessageHistoryAt self.old before
             → result ≡ true → broken_rules limits.now before (inner_head id length) ≡ [] }
-        ensures taken { (id : ℕ) (before : List JudgedHead) → IsMessageHistoryAt self.old before
+        ensures taken { (id : ℕ) (before : List HeadWithJudgement) → IsMessageHistoryAt self.old before
             → result ≡ true → IsMessageHistoryAt self.new (before ++ inner_head id length ∷ []) }
         ensures same { result ≡ false → self.new ≡ self.old }
     {
@@ -231,7 +231,7 @@ impl MessageHistory {
     #[inline(always)]
     pub fn take(&mut self, head: &JudgedHeadView<'_>)
         requires { SegmentTotalsFit head.now.message.now }
-        ensures { (before : List JudgedHead) → IsMessageHistoryAt self.old before
+        ensures { (before : List HeadWithJudgement) → IsMessageHistoryAt self.old before
             → IsMessageHistoryAt self.new (before ++ viewed_head head.now ∷ []) }
     {
         let message = head.message;

@@ -3,7 +3,7 @@
 ghost use Rattle.std.specs.Prelude.{◌≡◌, ℕ, ◌+◌, List, [], ◌∷◌, ◌++◌, option_map};
 ghost use Rattle.link_wire.specs.MessageBuffer.{message_of, SegmentTotalsFit};
 ghost use Rattle.link_wire.specs.declared.message.SegmentHead.{SegmentHead};
-ghost use Rattle.link_session_rules.specs.Heads.{JudgedHead, viewed_head};
+ghost use Rattle.link_session_rules.specs.Heads.{HeadWithJudgement, viewed_head};
 ghost use Rattle.link_session_rules.specs.Lengths.{peer_segment, if_passed, if_exceeded, earlier_of, segments_of, peer_transfer};
 ghost use Rattle.link_session_rules.specs.Remembered.{within_64_bits, so_far_of};
 
@@ -148,7 +148,7 @@ pub(crate) fn peer_transfer(
     head: &JudgedHeadView<'_>,
 ) -> Option<MessageRule>
     requires { SegmentTotalsFit head.now.message.now }
-    ensures { (before : List JudgedHead) → so_far ≡ so_far_of (segments_of before)
+    ensures { (before : List HeadWithJudgement) → so_far ≡ so_far_of (segments_of before)
         → result ≡ peer_transfer limit before (viewed_head head.now) }
 {
     let limit = limit?;
@@ -168,7 +168,7 @@ pub(crate) fn so_far_after(
     head: &JudgedHeadView<'_>,
 ) -> Option<TransferSoFar>
     requires { SegmentTotalsFit head.now.message.now }
-    ensures { (before : List JudgedHead) → so_far ≡ so_far_of (segments_of before)
+    ensures { (before : List HeadWithJudgement) → so_far ≡ so_far_of (segments_of before)
         → result ≡ so_far_of (segments_of (before ++ viewed_head head.now ∷ [])) }
 {
     let Fields::Segment {

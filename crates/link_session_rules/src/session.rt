@@ -3,7 +3,7 @@
 ghost use Rattle.std.specs.Prelude.{◌≡◌, List, [], ◌∷◌, ◌++◌};
 ghost use Rattle.link_wire.specs.MessageBuffer.{message_of};
 ghost use Rattle.link_wire.specs.declared.message.Message.{Message};
-ghost use Rattle.link_session_rules.specs.Heads.{JudgedHead, viewed_head, messages_of, is_sess_init, is_of_transfer, is_keepalive, disables_keepalive, parameters_of};
+ghost use Rattle.link_session_rules.specs.Heads.{HeadWithJudgement, viewed_head, messages_of, is_sess_init, is_of_transfer, is_keepalive, disables_keepalive, parameters_of};
 ghost use Rattle.link_session_rules.specs.Remembered.{next_since, session_of, keepalives_of};
 ghost use Rattle.link_session_rules.specs.Session.{order, order_level, changes_session, before_session, keepalive, keepalive_interval, type_after_sess_init, first_parameters, are_other};
 
@@ -143,7 +143,7 @@ fn is_keepalive(message: &MessageBuffer) -> bool
 #[tactic(auto, using(crate::proofs::Since::keepalive_by, crate::proofs::Since::then_some_rule_in))]
 #[inline(always)]
 pub(crate) fn keepalive(keepalives: Since, message: &MessageBuffer) -> Option<MessageRule>
-    ensures { (before : List JudgedHead) → keepalives ≡ keepalives_of (messages_of before)
+    ensures { (before : List HeadWithJudgement) → keepalives ≡ keepalives_of (messages_of before)
         → result ≡ keepalive before (message_of message.now) }
 {
     match keepalives {
@@ -206,7 +206,7 @@ pub(crate) fn order(
     session: Since,
     head: &JudgedHeadView<'_>,
 ) -> Option<MessageRule>
-    ensures { (before : List JudgedHead) → parameters.now ≡ first_parameters (messages_of before)
+    ensures { (before : List HeadWithJudgement) → parameters.now ≡ first_parameters (messages_of before)
         → session ≡ session_of (messages_of before)
         → result ≡ order before (viewed_head head.now) }
 {
@@ -236,7 +236,7 @@ pub(crate) fn before_session(
     parameters: &Option<Parameters>,
     message: &MessageBuffer,
 ) -> Option<MessageRule>
-    ensures { (before : List JudgedHead) → parameters.now ≡ first_parameters (messages_of before)
+    ensures { (before : List HeadWithJudgement) → parameters.now ≡ first_parameters (messages_of before)
         → result ≡ before_session before (message_of message.now) }
 {
     if parameters.is_some() {

@@ -85,7 +85,7 @@ impl TransferIds {
     ghost use Rattle.std.specs.List.{list_any};
     ghost use Rattle.link_wire.specs.declared.message.Message.{Message};
     ghost use Rattle.link_wire.specs.MessageBuffer.{message_of};
-    ghost use Rattle.link_session_rules.specs.Heads.{JudgedHead, newest, held, is_sess_init};
+    ghost use Rattle.link_session_rules.specs.Heads.{HeadWithJudgement, newest, held, is_sess_init};
     ghost use Rattle.link_session_rules.specs.TransferIds.{is_in, last_runs, ids_of, skips, jumps, jumps_to, transfer_id, transfer_id_order};
     ghost use Rattle.link_session_rules.specs.Remembered.{AreTransferIdsAt, kept_runs, kept_with};
 
@@ -187,7 +187,7 @@ impl TransferIds {
     #[tactic(auto, unfolding(crate::specs::TransferIds::transfer_id))]
     #[inline(always)]
     pub(crate) fn transfer_id(&self, message: &MessageBuffer) -> Option<MessageRule>
-        ensures { (before : List JudgedHead) → AreTransferIdsAt self.now (newest before)
+        ensures { (before : List HeadWithJudgement) → AreTransferIdsAt self.now (newest before)
             → result ≡ transfer_id before (message_of message.now) }
     {
         let id = start_id(message)?;
@@ -204,7 +204,7 @@ impl TransferIds {
         initiated: bool,
         message: &MessageBuffer,
     ) -> Option<MessageRule>
-        ensures { (before : List JudgedHead) → initiated ≡ list_any is_sess_init (newest before)
+        ensures { (before : List HeadWithJudgement) → initiated ≡ list_any is_sess_init (newest before)
             → AreTransferIdsAt self.now (newest before)
             → result ≡ transfer_id_order before (message_of message.now) }
     {

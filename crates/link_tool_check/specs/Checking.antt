@@ -11,7 +11,7 @@ use Rattle.link_run.specs.Writers.{on_output}
 use Rattle.link_run_over_transfers.specs.Saying.{Keeping, telling_of}
 use Rattle.link_run_over_transfers.specs.Walk.{Head, WalkEvent, ContactHeader, MessageHead, Data, Whole, LeftOpen, closes, is_beginning, Telling, told_of}
 use Rattle.link_session_rules.specs.Flags.{contact_flags}
-use Rattle.link_session_rules.specs.Heads.{JudgedHead, segment_of}
+use Rattle.link_session_rules.specs.Heads.{HeadWithJudgement, segment_of}
 use Rattle.link_session_rules.specs.MessageRules.{broken_rules}
 use Rattle.link_session_rules.specs.TransferData.{data_rule}
 use Rattle.link_session_rules.specs.TransferRules.{broken_transfer_rules}
@@ -64,7 +64,7 @@ rules_at rules (Some begun) = at_offset begun.offset (rules begun)
 
 -- what is kept of the events so far
 pub record Kept : Type 0 where
-  pub heads : List JudgedHead
+  pub heads : List HeadWithJudgement
   -- the transfer that began last
   pub latest : Option Begun
   -- whether no rule that counts was broken
@@ -73,7 +73,7 @@ pub record Kept : Type 0 where
 abbrev pub none_kept : Kept
 none_kept = record { heads = []; latest = None; good = true }
 
-abbrev pub judged : Head → JudgedHead
+abbrev pub judged : Head → HeadWithJudgement
 judged head = record { message = head.message; fault = head.fault; turn = head.turn }
 
 -- the latest transfer after a head, which may begin one
@@ -89,7 +89,7 @@ abbrev pub with_bytes : (bytes : List ℕ) → Begun → Begun
 with_bytes bytes begun = record begun { content = begun.content ++ bytes }
 
 -- the rules that a head breaks after these heads
-abbrev pub head_rules : CheckOptions → (before : List JudgedHead) → Head → List RuleText
+abbrev pub head_rules : CheckOptions → (before : List HeadWithJudgement) → Head → List RuleText
 head_rules options before head =
     at_offset head.offset
     (map (λ rule. Message rule) (broken_rules options.peer before (judged head)))
@@ -106,7 +106,7 @@ broken_by options kept (Data byte) = []
 broken_by options kept Whole = rules_at closed_rules kept.latest
 broken_by options kept LeftOpen = rules_at open_rules kept.latest
 
-abbrev pub heads_with : List JudgedHead → WalkEvent → List JudgedHead
+abbrev pub heads_with : List HeadWithJudgement → WalkEvent → List HeadWithJudgement
 heads_with heads (MessageHead head) = heads ++ judged head ∷ []
 heads_with heads _ = heads
 

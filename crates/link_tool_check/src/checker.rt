@@ -3,7 +3,7 @@
 ghost use Rattle.std.specs.Prelude.{◌≡◌, ℕ, true, [], ◌∷◌, ◌++◌, List, Option, map};
 ghost use Rattle.link_wire.specs.MessageBuffer.{SegmentTotalsFit};
 ghost use Rattle.link_session_rules.specs.Flags.{contact_flags};
-ghost use Rattle.link_session_rules.specs.Heads.{JudgedHead, viewed_head};
+ghost use Rattle.link_session_rules.specs.Heads.{HeadWithJudgement, viewed_head};
 ghost use Rattle.link_session_rules.specs.MessageRules.{broken_rules};
 ghost use Rattle.link_session_rules.specs.Remembered.{IsMessageHistoryAt};
 ghost use Rattle.link_report_broken_rules.specs.declared.rule.BrokenRule.TheVariants.{Message};
@@ -143,10 +143,10 @@ fn judge<W: OutDevice, E: OutDevice>(
     good: &mut bool,
 ) -> Result<(), IoFault>
     requires { SegmentTotalsFit head.now.message.now }
-    ensures gives { (before : List JudgedHead) → IsMessageHistoryAt history.old before
+    ensures gives { (before : List HeadWithJudgement) → IsMessageHistoryAt history.old before
         → WritesRules W.state E.state options.now.must writers.old writers.new good.old good.new
         result (head_rules options.now before (told_head head.now)) }
-    ensures history { (before : List JudgedHead) → IsMessageHistoryAt history.old before
+    ensures history { (before : List HeadWithJudgement) → IsMessageHistoryAt history.old before
         → IsMessageHistoryAt history.new (before ++ judged (told_head head.now) ∷ []) }
 {
     let judged = JudgedHeadView {
@@ -172,12 +172,12 @@ fn judge_inner<W: OutDevice, E: OutDevice>(
     good: &mut bool,
 ) -> Result<(), IoFault>
     requires { SegmentTotalsFit head.now.message.now }
-    ensures gives { (id : ℕ) (before : List JudgedHead)
+    ensures gives { (id : ℕ) (before : List HeadWithJudgement)
         → told_head head.now ≡ inner_head head.now.offset id length
         → IsMessageHistoryAt history.old before
         → WritesRules W.state E.state options.now.must writers.old writers.new good.old good.new
         result (head_rules options.now before (told_head head.now)) }
-    ensures history { (id : ℕ) (before : List JudgedHead)
+    ensures history { (id : ℕ) (before : List HeadWithJudgement)
         → told_head head.now ≡ inner_head head.now.offset id length
         → IsMessageHistoryAt history.old before
         → IsMessageHistoryAt history.new (before ++ judged (told_head head.now) ∷ []) }
@@ -199,10 +199,10 @@ fn judge_apart<W: OutDevice, E: OutDevice>(
     good: &mut bool,
 ) -> Result<(), IoFault>
     requires { SegmentTotalsFit head.message.now }
-    ensures gives { (before : List JudgedHead) → IsMessageHistoryAt history.old before
+    ensures gives { (before : List HeadWithJudgement) → IsMessageHistoryAt history.old before
         → WritesRules W.state E.state options.now.must writers.old writers.new good.old good.new
         result (head_rules options.now before (told_head head.entry)) }
-    ensures history { (before : List JudgedHead) → IsMessageHistoryAt history.old before
+    ensures history { (before : List HeadWithJudgement) → IsMessageHistoryAt history.old before
         → IsMessageHistoryAt history.new (before ++ judged (told_head head.entry) ∷ []) }
 {
     judge(options, &head, history, writers, good)
@@ -220,7 +220,7 @@ fn write_head<W: OutDevice, E: OutDevice>(
     good: &mut bool,
 ) -> Result<(), IoFault>
     requires { SegmentTotalsFit head.now.message.now }
-    ensures { (before : List JudgedHead) → IsMessageHistoryAt history.now before
+    ensures { (before : List HeadWithJudgement) → IsMessageHistoryAt history.now before
         → WritesRules W.state E.state options.now.must writers.old writers.new good.old good.new
         result (at_offset offset (map (λ rule. Message rule)
         (broken_rules options.now.peer before (viewed_head head.now)))) }
@@ -242,7 +242,7 @@ fn write_broken<W: OutDevice, E: OutDevice>(
     good: &mut bool,
 ) -> Result<(), IoFault>
     requires { SegmentTotalsFit head.now.message.now }
-    ensures { (before : List JudgedHead) → IsMessageHistoryAt history.now before
+    ensures { (before : List HeadWithJudgement) → IsMessageHistoryAt history.now before
         → WritesRules W.state E.state options.now.must writers.old writers.new good.old good.new
         result (at_offset offset (map (λ rule. Message rule)
         (broken_rules options.now.peer before (viewed_head head.now)))) }

@@ -11,9 +11,9 @@ use Rattle.link_wire.specs.declared.{message.Message.Message, session.Session.Se
 use Rattle.link_wire.proofs.Contacts.{reading-none}
 use Rattle.link_io.proofs.Sources.{Takes-none, Takes-then, Readies-takes}
 use Rattle.link_report.specs.Message.{contact_text, message_text}
-use Rattle.link_run.specs.Made.{IsLasting, shows_fault, stop_of}
-use Rattle.link_run.specs.Run.{Texts, no_texts, ◌then◌, Looks, Devices, Place, LastStep, progress_after}
-use Rattle.link_run.specs.Stages.{IsRunAt, AfterStage, MayBegin}
+use Rattle.link_run.specs.Made.{HasLastingFaults, shows_fault, stop_of}
+use Rattle.link_run.specs.Run.{Texts, no_texts, ◌then◌, Looks, Devices, Place, EndingStep, progress_after}
+use Rattle.link_run.specs.Stages.{IsRunAt, AfterStage, HasEmptyStart}
 use Rattle.link_run.specs.Writers.{place_of, on_output, AfterWrite}
 use Rattle.link_run.specs.declared.{next.Next.Next, run.Progress.Progress, run.Status.Status}
 use Rattle.link_run.specs.declared.run.Progress.TheVariants.{More}
@@ -62,11 +62,11 @@ no_lines = refl
 pub nothing_listed : (listing_of []).texts ≡ no_texts
 nothing_listed = rw (by_reading, reading-none, no_lines) refl
 
-lasting : IsLasting listing_of
+lasting : HasLastingFaults listing_of
 unfolding listing_of
 lasting bytes more shown = rw ((reading_on bytes more).stays shown) shown
 
-pub may_begin : MayBegin listing_of true
+pub may_begin : HasEmptyStart listing_of true
 may_begin = record {
   texts = nothing_listed;
   unshown = rw (by_reading, reading-none) refl;
@@ -164,7 +164,7 @@ module _ {R W E : Type 0} {look : Looks R W E} {start : Devices R W E} (old new 
 
   -- the stream has ended between two messages
   pub clean_ended : (status : Status) → status.0 ≡ 0 → ReachedEnd look.input old new history
-      → LastStep look list_tool start (place_of (source_of new) w) longest_head history (Ok status)
+      → EndingStep look list_tool start (place_of (source_of new) w) longest_head history (Ok status)
   clean_ended status zero got =
       let made_is : listing_of (history ++ []) ≡ listing_by (reading_of history) =
       rw append-nil (by_reading history) in

@@ -8,7 +8,7 @@ use Rattle.link_wire.specs.Session.{source_of, IsSessionAt, may_open, may_read, 
 use Rattle.link_wire.specs.Source.{Takes, window_of}
 use Rattle.link_wire.specs.declared.{IoFault.IoFault, session.Session.Session}
 use Rattle.link_report.specs.Message.{message_text}
-use Rattle.link_run.specs.Run.{Texts, Looks, ◌then◌, Devices, Place, LastStep, ContinuedStep}
+use Rattle.link_run.specs.Run.{Texts, Looks, ◌then◌, Devices, Place, EndingStep, ContinuedStep}
 use Rattle.link_run.specs.Stages.{IsRunAt, AfterStage}
 use Rattle.link_run.specs.Writers.{place_of, on_output, AfterWrite}
 use Rattle.link_run.specs.declared.{next.Next.Next, run.Progress.Progress}
@@ -106,7 +106,7 @@ module _ {R W E : Type 0} (look : Looks R W E) (start : Devices R W E) (piece : 
       × (IsListingAt look.input stage.Data line new bytes
       × HasNoDataYet now (reading_of bytes).end)) (most_by piece now) history
   AfterRead (next.Ended answer) =
-      LastStep look list_tool start (place_of (source_of new) writers) (most_by piece now) history
+      EndingStep look list_tool start (place_of (source_of new) writers) (most_by piece now) history
       answer
 
 module _ {R : Type 0} (look : R → Input) (first : Texts) where

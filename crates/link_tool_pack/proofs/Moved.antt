@@ -16,7 +16,7 @@ use Rattle.link_tool_option_types.specs.declared.pack.PackOptions.{PackOptions}
 use Rattle.link_tool_pack.specs.Segments.{flags_of, segment_bytes, Sending, cutting_of, cut_at, segments_from, segments_of}
 use Rattle.link_tool_pack.specs.Packing.{sending, transfer_bytes, rest_segments}
 use Rattle.link_tool_pack.specs.More.{more_of}
-use Rattle.link_tool_pack.specs.MoreLaws.{moved_entry, IsMoved}
+use Rattle.link_tool_pack.specs.MoreLaws.{moved_entry, SegmentsDifferOnlyInIds}
 
 -- ---- the head of a segment
 
@@ -145,7 +145,7 @@ module _ (first : ℕ) where
         none_moves 0 (due (cutting_of part)) offset in
         rw (append-nil, append-nil) at moves
 
-pub is_moved : IsMoved
+pub is_moved : SegmentsDifferOnlyInIds
 unfolding more_of
 is_moved first options bytes few =
     let input = divided options.peer_transfer bytes in

@@ -5,7 +5,7 @@ use Rattle.link_run_over_bundle_files.specs.Bundles.{Packed, Refusal, Divided, b
 use Rattle.link_tool_option_types.specs.declared.pack.PackOptions.{PackOptions}
 use Rattle.link_tool_pack.specs.Packing.{prelude_bytes, transfer_bytes, rest_segments, end_bytes, bundles_output, report_lines, packing_of}
 use Rattle.link_tool_pack.specs.More.{id_at, more_output, more_lines, more_of}
-use Rattle.link_tool_pack.specs.MoreLaws.{from, IsPackedAlone, HasFewBundles, HasLinesFromFirst}
+use Rattle.link_tool_pack.specs.MoreLaws.{from, HasTextsOfMore, HasNoMoreBundlesThanBytes, HasLinesFromFirst}
 use Rattle.link_tool_pack.specs.declared.more.MoreOptions.{MoreOptions}
 
 output_is : (options : PackOptions) (input : Divided)
@@ -40,7 +40,7 @@ few_in (suc count) limit (byte ∷ bytes) =
     few_by (divided_in count limit) count (bundle_prefix (byte ∷ bytes)) (byte ∷ bytes) _
     (few_in count limit)
 
-pub has_few : (limit : ℕ) (bytes : List ℕ) → HasFewBundles limit bytes
+pub has_few : (limit : ℕ) (bytes : List ℕ) → HasNoMoreBundlesThanBytes limit bytes
 unfolding divided
 has_few limit bytes = few_in (length bytes) limit bytes
 
@@ -48,7 +48,7 @@ pub has_lines : (options : MoreOptions) (bytes : List ℕ) → HasLinesFromFirst
 unfolding more_of
 has_lines options bytes few = lines_are options 0 options.first _ (omega arith) few
 
-pub is_packed : (options : PackOptions) (bytes : List ℕ) → IsPackedAlone options bytes
+pub is_packed : (options : PackOptions) (bytes : List ℕ) → HasTextsOfMore options bytes
 unfolding packing_of more_of
 is_packed options bytes =
     let input = divided options.peer_transfer bytes in

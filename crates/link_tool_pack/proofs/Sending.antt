@@ -14,7 +14,7 @@ use Rattle.link_wire.specs.{Device.Output, Spelled.be, Spelling.{list_bytes, seg
 use Rattle.link_wire.specs.declared.IoFault.{IoFault}
 use Rattle.link_transfer.specs.{Cutter.{IsCutterAt, cut_waits}, declared.cutter.Cutter.Cutter}
 use Rattle.link_transfer.proofs.{Giving.next_cut-none, Steps.next_cut-is}
-use Rattle.link_run.specs.Writers.{on_output, Writes, WritesPart, AfterWrite}
+use Rattle.link_run.specs.Writers.{on_output, Writes, FailedWrite, AfterWrite}
 use Rattle.link_run.specs.declared.writers.Writers.{Writers}
 use Rattle.link_run.proofs.Runs.{writes_none, part_of_more, output_then}
 use Rattle.link_tool_pack.specs.PackRun.{Sends}
@@ -178,8 +178,8 @@ holds_if (Err fault) holds = tt
 
 module _ {W E : Type 0} (out_look : W → Output) (report_look : E → Output) where
   pub part_more : (old new : Writers W E) (first second : List ℕ) (fault : IoFault)
-      → WritesPart out_look report_look old new (on_output first) fault
-      → WritesPart out_look report_look old new (on_output (first ++ second)) fault
+      → FailedWrite out_look report_look old new (on_output first) fault
+      → FailedWrite out_look report_look old new (on_output (first ++ second)) fault
   part_more old new first second fault part =
       part_of_more out_look report_look old new (on_output first) (on_output second) fault
       (λ none. absurd (omega arith)) part
@@ -330,7 +330,7 @@ module _ {W E : Type 0} (out_look : W → Output) (report_look : E → Output) w
 
       -- a writer failed in a segment
       pub sent_part : (fault : IoFault)
-          → WritesPart out_look report_look mid new (on_output (segment_bytes id cut chunk)) fault
+          → FailedWrite out_look report_look mid new (on_output (segment_bytes id cut chunk)) fault
           → Sends out_look report_look id start old new after (Err fault)
       sent_part fault part = record {
         wrote = some.then_all new (Err fault) (rw (← left)

@@ -15,7 +15,7 @@ from first options = record { first = first; pack = options }
 
 -- The output of `pack` is the prelude, then the output of `pack_more` with the first ID 0, and then
 -- SESS_TERM, if the options ask for it. Both write the same report, and stop at the same fault.
-pub record IsPackedAlone (options : PackOptions) (bytes : List ℕ) : Type 0 where
+pub record HasTextsOfMore (options : PackOptions) (bytes : List ℕ) : Type 0 where
   pub output : (packing_of options bytes).texts.output
       ≡ prelude_bytes options ++ (more_of (from 0 options) bytes).texts.output
   pub ended : (packing_of options bytes).ended.output
@@ -27,8 +27,8 @@ pub record IsPackedAlone (options : PackOptions) (bytes : List ℕ) : Type 0 whe
 
 -- An input has no more bundles than bytes. So if the first ID and the number of bytes together are
 -- at most 2^64 - 1, all IDs fit in 64 bits.
-abbrev pub HasFewBundles : (limit : ℕ) → (bytes : List ℕ) → Type 0
-HasFewBundles limit bytes = length (divided limit bytes).bundles ≤ length bytes
+abbrev pub HasNoMoreBundlesThanBytes : (limit : ℕ) → (bytes : List ℕ) → Type 0
+HasNoMoreBundlesThanBytes limit bytes = length (divided limit bytes).bundles ≤ length bytes
 
 -- If all IDs fit, the lines are those of the transfers `first` and after it.
 abbrev pub HasLinesFromFirst : MoreOptions → (bytes : List ℕ) → Type 0
@@ -47,8 +47,8 @@ abbrev pub moved_entry : (first : ℕ) → Entry → Entry
 moved_entry first entry = record entry { message = moved first entry.message }
 
 -- With another first ID, the segments are the same except for their IDs. All IDs have to fit.
-abbrev pub IsMoved : Type 0
-IsMoved =
+abbrev pub SegmentsDifferOnlyInIds : Type 0
+SegmentsDifferOnlyInIds =
     (first : ℕ) (options : PackOptions) (bytes : List ℕ) →
     first + length (divided options.peer_transfer bytes).bundles ≤ 2 ^ 64 - 1 →
     stream_at 0 (more_of (from first options) bytes).texts.output

@@ -4,7 +4,7 @@
 
 ghost use Rattle.std.specs.Prelude.{ℕ, List};
 ghost use Rattle.link_tool_option_types.specs.declared.pack.PackOptions.{PackOptions};
-ghost use Rattle.link_tool_pack.specs.MoreLaws.{IsPackedAlone, HasFewBundles, HasLinesFromFirst, IsMoved};
+ghost use Rattle.link_tool_pack.specs.MoreLaws.{HasTextsOfMore, HasNoMoreBundlesThanBytes, HasLinesFromFirst, SegmentsDifferOnlyInIds};
 ghost use Rattle.link_tool_pack.specs.declared.more.MoreOptions.{MoreOptions};
 
 /// What `pack` writes is the contact header and SESS_INIT, then what `pack_more` writes with the
@@ -13,8 +13,8 @@ ghost use Rattle.link_tool_pack.specs.declared.more.MoreOptions.{MoreOptions};
 /// With another first ID, the segments are the same except for their IDs, if all IDs fit in 64
 /// bits.
 pub fn more_of_pack()
-    ensures packed { (options : PackOptions) (bytes : List ℕ) → IsPackedAlone options bytes }
-    ensures moved { IsMoved }
+    ensures packed { (options : PackOptions) (bytes : List ℕ) → HasTextsOfMore options bytes }
+    ensures moved { SegmentsDifferOnlyInIds }
 {}
 
 /// All IDs fit in 64 bits if the first ID and the length of the input together do.
@@ -22,6 +22,6 @@ pub fn more_of_pack()
 /// An input has no more bundles than bytes. If all IDs fit, the lines of the report have the IDs
 /// from the first one on.
 pub fn more_ids()
-    ensures few { (limit : ℕ) (bytes : List ℕ) → HasFewBundles limit bytes }
+    ensures few { (limit : ℕ) (bytes : List ℕ) → HasNoMoreBundlesThanBytes limit bytes }
     ensures lines { (options : MoreOptions) (bytes : List ℕ) → HasLinesFromFirst options bytes }
 {}

@@ -3,15 +3,15 @@ use Rattle.std.proofs.Common.{ℕ, ◌+◌, Result, Ok, Err, List, [], ◌++◌,
 use Rattle.std.proofs.{Math.Seq.take-append-add, KnownBytes.Appends-trans}
 use Rattle.link_wire.specs.{Device.Output, declared.IoFault.IoFault}
 use Rattle.link_run.specs.Run.{◌then◌}
-use Rattle.link_run.specs.Writers.{on_output, on_report, Writes, WritesPart, AfterWrite}
+use Rattle.link_run.specs.Writers.{on_output, on_report, Writes, FailedWrite, AfterWrite}
 use Rattle.link_run.specs.declared.writers.Writers.{Writers}
 use Rattle.link_run.proofs.Runs.{part_of_more, writes_then}
 
 module _ {W E : Type 0} (out_look : W → Output) (report_look : E → Output) where
   -- the first was not written whole
   pub reports_part : (old new : Writers W E) (first second : List ℕ) (fault : IoFault)
-      → WritesPart out_look report_look old new (on_report first) fault
-      → WritesPart out_look report_look old new (on_report (first ++ second)) fault
+      → FailedWrite out_look report_look old new (on_report first) fault
+      → FailedWrite out_look report_look old new (on_report (first ++ second)) fault
   reports_part old new first second fault part =
       part_of_more out_look report_look old new (on_report first) (on_report second) fault
       (λ some. refl) part
@@ -48,8 +48,8 @@ module _ {W E : Type 0} (out_look : W → Output) (report_look : E → Output) w
 
   -- the same, if the first goes to the output
   pub output_part : (old new : Writers W E) (first second : List ℕ) (fault : IoFault)
-      → WritesPart out_look report_look old new (on_output first) fault
-      → WritesPart out_look report_look old new (on_output first then on_report second) fault
+      → FailedWrite out_look report_look old new (on_output first) fault
+      → FailedWrite out_look report_look old new (on_output first then on_report second) fault
   output_part old new first second fault part =
       part_of_more out_look report_look old new (on_output first) (on_report second) fault
       (λ some. refl) part

@@ -10,7 +10,7 @@ use Rattle.link_transfer.specs.{Chunks.chunk_count, Cutting.{due, due_of}, Event
 use Rattle.link_transfer.specs.{Joiner.IsJoinerAt, Order.refusal}
 use Rattle.link_transfer.proofs.Due.{chunk_left, byte_left, given_within, fits_back}
 use Rattle.link_transfer.proofs.Joining.{IsJoinerAt-none}
-use Rattle.link_session_rules.specs.Heads.{JudgedHead}
+use Rattle.link_session_rules.specs.Heads.{HeadWithJudgement}
 use Rattle.link_run.proofs.Continued.{entry}
 use Rattle.link_run_over_transfers.specs.Walk.{head_at}
 use Rattle.link_run_judge.specs.Transfers.{Transfer, after_message}
@@ -77,12 +77,12 @@ module _ (options : PackOptions) where
 
 -- what a head has to keep that comes after these messages and heads
 abbrev pub ToKeep : Type 1
-ToKeep = List Message → List JudgedHead → Entry → Type 0
+ToKeep = List Message → List HeadWithJudgement → Entry → Type 0
 
 module _ (Keeps : ToKeep) (End : List Message → List Transfer → Type 0) where
   -- Each of these heads is in order, and keeps what it has to. They come after these messages,
   -- heads and transfers, and `End` holds after them.
-  abbrev pub Come : List Message → (before : List JudgedHead) → List Transfer → List Entry
+  abbrev pub Come : List Message → (before : List HeadWithJudgement) → List Transfer → List Entry
       → Type 0
   Come taken before transfers [] = End taken transfers
   Come taken before transfers (head ∷ more) =
@@ -94,22 +94,22 @@ module _ (Keeps : ToKeep) (End : List Message → List Transfer → Type 0) wher
   -- these heads come after any others with which the next transfer has this ID
   abbrev pub ComeAfter : (next : ℕ) → List Transfer → List Entry → Type 0
   ComeAfter next transfers heads =
-      (taken : List Message) (before : List JudgedHead) → Between next taken before
+      (taken : List Message) (before : List HeadWithJudgement) → Between next taken before
       → Come taken before transfers heads
 
   -- ---- the segments of a bundle
 
   module _ (id : ℕ) (sending : Sending) (earlier : List Transfer) (more : List Entry) (last : ℕ)
-      (keeps : (k offset : ℕ) → k ≤ last → (taken : List Message) (before : List JudgedHead)
+      (keeps : (k offset : ℕ) → k ≤ last → (taken : List Message) (before : List HeadWithJudgement)
       → At id sending k taken before → Keeps taken before (segment_at id sending k offset))
       (goes_on : (k : ℕ) → k < last → last_at id sending k ≡ false)
-      (then_come : (taken : List Message) (before : List JudgedHead)
+      (then_come : (taken : List Message) (before : List HeadWithJudgement)
       → (last_at id sending last ≡ true → Between (suc id) taken before)
       → Come taken before (sent id sending (suc last) (last_at id sending last) ∷ earlier) more)
     where
       -- those from number `k` on
       chunks_come : (count k offset : ℕ) → k + count ≡ last
-          → (taken : List Message) (before : List JudgedHead) → At id sending k taken before
+          → (taken : List Message) (before : List HeadWithJudgement) → At id sending k taken before
           → Come taken before (so_far id sending k earlier)
           (segment_entries id sending k (suc count) offset ++ more)
       unfolding segment_entries
@@ -145,7 +145,7 @@ module _ (Keeps : ToKeep) (End : List Message → List Transfer → Type 0) wher
       (keeps : (id k offset : ℕ) (whole : Bool) (bytes : List ℕ)
       → length bytes ≤ options.peer_transfer
       → k < chunk_count (segment_size options) (length bytes)
-      → (taken : List Message) (before : List JudgedHead)
+      → (taken : List Message) (before : List HeadWithJudgement)
       → At id (sending options whole bytes) k taken before
       → Keeps taken before (segment_at id (sending options whole bytes) k offset)) where
     whole_come : (id count : ℕ) (bundle : Packed) (earlier : List Transfer) (more : List Entry)
@@ -211,7 +211,7 @@ module _ (Keeps : ToKeep) (End : List Message → List Transfer → Type 0) wher
 
     -- what comes at the end of a stream
     pub term_come : (asked : Bool) (offset next : ℕ) (made : List Transfer)
-        → ((taken : List Message) (before : List JudgedHead) → Between next taken before
+        → ((taken : List Message) (before : List HeadWithJudgement) → Between next taken before
         → Keeps taken before (entry offset (message.SessTerm 0 0) []))
         → ((terminated : Bool) (taken : List Message)
         → IsJoinerAt (record (carrying None) { terminated = terminated }) taken → End taken made)
@@ -265,7 +265,7 @@ module _ (options : PackOptions) where
     fits : (id k offset : ℕ) (whole : Bool) (bytes : List ℕ)
         → length bytes ≤ options.peer_transfer
         → k < chunk_count (segment_size options) (length bytes)
-        → (taken : List Message) (before : List JudgedHead)
+        → (taken : List Message) (before : List HeadWithJudgement)
         → At id (sending options whole bytes) k taken before
         → Fits (segment_at id (sending options whole bytes) k offset)
     fits id k offset whole bytes within few taken before at =
@@ -289,7 +289,7 @@ module _ (options : PackOptions) where
         (some_size options) (omega arith)) (λ taken. rw is refl)
 
     -- what holds of heads that come one by one
-    come_so : (heads : List Entry) (taken : List Message) (before : List JudgedHead)
+    come_so : (heads : List Entry) (taken : List Message) (before : List HeadWithJudgement)
         (transfers : List Transfer) → Come Keep End taken before transfers heads
         → (ordered_after taken heads ≡ all heads)
         × (after_all transfers heads ≡ packed_transfers options input) × All Fits heads

@@ -15,7 +15,7 @@ use Rattle.link_transfer.specs.declared.fault.OrderFault.{OrderFault}
 use Rattle.link_session_rules.specs.{TransferData.data_rule, Flags.item_flags, NodeIds.node_id}
 use Rattle.link_session_rules.specs.TransferRules.{broken_transfer_rules, if_malformed, if_different, length_item, length_differs, length_of_one_segment, transfer_level_of}
 use Rattle.link_session_rules.specs.declared.rule.TransferRule.{TransferRule}
-use Rattle.link_session_rules.specs.{Heads.{JudgedHead, messages_of}, Session.{order, order_level}}
+use Rattle.link_session_rules.specs.{Heads.{HeadWithJudgement, messages_of}, Session.{order, order_level}}
 use Rattle.link_session_rules.specs.MessageRules.{broken_rules, judged_rules, level_of}
 use Rattle.link_session_rules.specs.declared.rule.MessageRule.{MessageRule}
 use Rattle.link_report.specs.Judgement.{judged_length, judged_data}
@@ -26,7 +26,7 @@ use Rattle.link_run_over_transfers.specs.Walk.{head_at, WalkEvent, MessageHead, 
 use Rattle.link_run_judge.specs.{Transfers.Transfer, Unpacking.Told}
 use Rattle.link_tool_check.specs.Checking.{closed_rules, data_rules, Begun, heads_with, judged, latest_with, check_tool}
 use Rattle.link_tool_check.specs.Lines.{none_counts, at_offset}
-use Rattle.link_tools_laws.specs.Checked.{IsGoodOrUnread, IsAllowed, IsSecondInit, MayStop, HasOnlyAllowed}
+use Rattle.link_tools_laws.specs.Checked.{IsGoodOrUnread, IsAllowedTransfer, IsSecondInit, IsAllowedStop, HasOnlyAllowed}
 use Rattle.link_tools_laws.specs.{Cuts.{fault_at, faults_after, lined}, RoundTrip.all}
 use Rattle.link_tools_laws.specs.Transfers.{ordered_by, ordered_after, ordered, transfers_of, unpacked_of}
 use Rattle.link_tools_laws.proofs.Placed.{counts_append, options, broken_with, broken_from, good_kept, none_before, Placed, is_closed, passing, transfers_in, begun_of, due_of, rules_of, told_transfers, AfterAll, from_start}
@@ -87,11 +87,11 @@ closed_allowed placed none =
 
 -- transfers that break no rule of level `must` once they are closed
 pub all_allowed : (placed : List Placed) → NoMust (rules_of placed)
-    → All IsAllowed (transfers_in placed)
-all_allowed [] none = All-nil IsAllowed
+    → All IsAllowedTransfer (transfers_in placed)
+all_allowed [] none = All-nil IsAllowedTransfer
 all_allowed (latest ∷ earlier) none =
     let both = no_must_both (rules_of earlier) (due_of latest) none in
-    All-cons IsAllowed latest.transfer (transfers_in earlier)
+    All-cons IsAllowedTransfer latest.transfer (transfers_in earlier)
     (grind (arith, closed_allowed, both.1)) (all_allowed earlier both.0)
 
 -- ---- the transfers of heads
@@ -116,9 +116,9 @@ module _ (peer : PeerLimits) (contact : Option Contact) where
         ∙ ap (λ (told : Told). told.transfers) (heads_said wanted true contact heads read)
 
     transfers_allowed : KeepsMusts heads → (wanted : Wanted)
-        → All IsAllowed (unpacked_of wanted heads).transfers
+        → All IsAllowedTransfer (unpacked_of wanted heads).transfers
     transfers_allowed keeps wanted =
-        subst (All IsAllowed) (same_transfers wanted)
+        subst (All IsAllowedTransfer) (same_transfers wanted)
         (all_allowed placed.after
         (rw placed.rules (closed_no_must (broken_from peer [] None (every heads).events) keeps)))
 
@@ -178,7 +178,7 @@ module _ (offset : ℕ) where
   order_rule earlier message fault others none = grind arith
 
 module _ (peer : PeerLimits) where
-  head_allowed : (heads : List JudgedHead) (offset : ℕ) (head : JudgedHead)
+  head_allowed : (heads : List HeadWithJudgement) (offset : ℕ) (head : HeadWithJudgement)
       → none_counts true (lines_for offset (broken_rules peer heads head)) ≡ true
       → All IsSecondInit (fault_at offset head.fault)
   unfolding broken_rules order
@@ -188,14 +188,14 @@ module _ (peer : PeerLimits) where
       (later_rules offset (item_flags head.message) (drop 2 judged)
       (later_rules offset (node_id head.message) (drop 1 judged) none))
 
-  event_allowed : (heads : List JudgedHead) (latest : Option Begun) (event : WalkEvent)
+  event_allowed : (heads : List HeadWithJudgement) (latest : Option Begun) (event : WalkEvent)
       → none_counts true (broken_with peer heads latest event) ≡ true
       → All IsSecondInit (faults_of event)
   event_allowed heads latest (MessageHead head) none =
       head_allowed heads head.offset (judged head) (grind (arith, counts_append))
   event_allowed heads latest event none = All-nil IsSecondInit
 
-  events_allowed : (events : List WalkEvent) (heads : List JudgedHead) (latest : Option Begun)
+  events_allowed : (events : List WalkEvent) (heads : List HeadWithJudgement) (latest : Option Begun)
       → none_counts true (broken_from peer heads latest events) ≡ true
       → All IsSecondInit (all_faults events)
   events_allowed [] heads latest none = All-nil IsSecondInit
@@ -230,17 +230,17 @@ may_refuse (head ∷ more) before faults =
     ]) refl faults
 
 may_stop : (refused : Option (ℕ × OrderFault)) (end : End) → stop_of end ≡ None
-    → MayRefuse refused → MayStop (stop_by refused end)
+    → MayRefuse refused → IsAllowedStop (stop_by refused end)
 may_stop None end none may = rw none tt
 may_stop (Some (offset, fault)) end none may = (offset, ap (λ f. Order offset f) may)
 
-lined_allowed : (stop : Option StreamStop) (transfers : List Transfer) → All IsAllowed transfers
-    → All IsAllowed (lined stop transfers)
+lined_allowed : (stop : Option StreamStop) (transfers : List Transfer) → All IsAllowedTransfer transfers
+    → All IsAllowedTransfer (lined stop transfers)
 lined_allowed None transfers allowed = allowed
 lined_allowed (Some stop) [] allowed = allowed
 lined_allowed (Some stop) (latest ∷ earlier) allowed =
-    elim latest.closed as (λ closed. All IsAllowed (if closed then latest ∷ earlier else earlier))
-    [ true ↦ allowed | false ↦ All-tail IsAllowed latest earlier allowed ]
+    elim latest.closed as (λ closed. All IsAllowedTransfer (if closed then latest ∷ earlier else earlier))
+    [ true ↦ allowed | false ↦ All-tail IsAllowedTransfer latest earlier allowed ]
 
 -- ---- a recording
 
@@ -280,7 +280,7 @@ module _ (peer : PeerLimits) (bytes : List ℕ)
   abbrev accepted : List Entry
   accepted = (ordered heads).heads
 
-  accepted_allowed : All IsAllowed (transfers_of accepted)
+  accepted_allowed : All IsAllowedTransfer (transfers_of accepted)
   accepted_allowed =
       let first = all_kept heads in
       let read = first.read (reading_read bytes).heads in

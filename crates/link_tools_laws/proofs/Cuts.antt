@@ -16,7 +16,7 @@ use Rattle.link_run_judge.proofs.{Effects.Does, Texts.parts_more}
 use Rattle.link_run_judge.proofs.Heads.{transfers_same, transfer_begins, transfer_continues}
 use Rattle.link_tools_laws.specs.Cuts.{data_of, prepended_unless, taken_after, HasEveryByte, HasEveryTakenByte, order_of, entries_of, AreConsecutive, total_written, stream_stop, lined, reported, Divides, DividesOutput, stopping, going_on, ReportLine, OfHead, OfTransfer, line_text, entry_in, fault_in, faults_after, DividesOutputGoingOn}
 use Rattle.link_tools_laws.specs.RoundTrip.{all}
-use Rattle.link_tools_laws.specs.Transfers.{ordered_after, ordered, transfers_of, Unpacked, transfers_with, with_head, unpacked_of, by_transfers, settled}
+use Rattle.link_tools_laws.specs.Transfers.{ordered_after, ordered, transfers_of, UnpackedSoFar, transfers_with, with_head, unpacked_of, by_transfers, settled}
 use Rattle.link_tools_laws.proofs.Same.{accepted_in_order, all_kept, AreInOrder, all as in_order, first_may, not_stray, taken_more, unpacked_in_order, whole_is}
 use Rattle.link_tools_laws.proofs.OneHead.{latest_open, lines_are, entries_due, lines_due, settled_all, KnowsWhole, stray_is, does, through, added}
 use Rattle.link_tools_laws.proofs.{Prefixes.whole_output, Whole.{FitsData, AreRead, reading_read}}
@@ -49,10 +49,10 @@ module _ (keep_going : Bool) where
       )
 
   -- the bytes so far, and then those of the heads to come
-  abbrev HasBytes : List ℕ → Unpacked → List Entry → Type 0
+  abbrev HasBytes : List ℕ → UnpackedSoFar → List Entry → Type 0
   HasBytes bytes u more = parts u.transfers ++ flat_map data_of (taken_after u.taken more) ≡ bytes
 
-  bytes_step : (bytes : List ℕ) (u : Unpacked) (head : Entry) (more : List Entry) → KnowsWhole u
+  bytes_step : (bytes : List ℕ) (u : UnpackedSoFar) (head : Entry) (more : List Entry) → KnowsWhole u
       → FitsData head → HasBytes bytes u (head ∷ more)
       → HasBytes bytes (with_head everything u head) more
   unfolding taken_after
@@ -250,13 +250,13 @@ no_faults (entry ∷ more) = no_faults more
 module _ (wanted : Wanted) where
   -- These lines are the report so far: of the transfers that are over, and of the heads that are
   -- not in order. With those of the heads to come, these have all faults.
-  record Reports (all : List (ℕ × OrderFault)) (u : Unpacked) (more : List Entry) : Type 0 where
+  record Reports (all : List (ℕ × OrderFault)) (u : UnpackedSoFar) (more : List Entry) : Type 0 where
     pub lines : List ReportLine
     pub report : flat_map line_text lines ≡ u.report
     pub entries : flat_map entry_in lines ≡ entries_of wanted (settled u.transfers)
     pub faults : flat_map fault_in lines ++ faults_after u.taken more ≡ all
 
-  reports_head : (all : List (ℕ × OrderFault)) (u : Unpacked) (head : Entry) (more : List Entry)
+  reports_head : (all : List (ℕ × OrderFault)) (u : UnpackedSoFar) (head : Entry) (more : List Entry)
       → KnowsWhole u → FitsData head → Reports all u (head ∷ more)
       → Reports all (with_head wanted u head) more
   unfolding faults_after

@@ -20,7 +20,7 @@ use Rattle.link_run_judge.proofs.Events.{told_then, told_both, data_told, whole_
 use Rattle.link_run_judge.proofs.Effects.{zero_eq, Does, Strays, Passes, Begins, Continues, what_does}
 use Rattle.link_run_judge.proofs.Heads.{transfers_same, transfer_begins, transfer_continues}
 use Rattle.link_tools_laws.specs.Cuts.{entries_of}
-use Rattle.link_tools_laws.specs.Transfers.{settled, lines_of, are_good, abandoned_line, Unpacked, none_unpacked, transfers_with, transfer_lines, with_head, unpacked_of}
+use Rattle.link_tools_laws.specs.Transfers.{settled, lines_of, are_good, abandoned_line, UnpackedSoFar, none_unpacked, transfers_with, transfer_lines, with_head, unpacked_of}
 use Rattle.link_tools_laws.proofs.Whole.{FitsData, AreWhole, AreRead}
 use Rattle.link_wire.specs.declared.message.Message.TheVariants as message
 use Rattle.link_transfer.specs.declared.joiner.Turn.TheVariants as turn
@@ -306,10 +306,10 @@ head_adds wanted fault effect stray head (latest ∷ earlier) fits same
     (grind arith))
 
 -- all data of the heads so far has come, so the latest transfer is open if one is open
-abbrev pub KnowsWhole : Unpacked → Type 0
+abbrev pub KnowsWhole : UnpackedSoFar → Type 0
 KnowsWhole u = latest_open u.transfers ≡ is_some (open_of u.taken)
 
-module _ (wanted : Wanted) (u : Unpacked) (head : Entry) (whole : KnowsWhole u)
+module _ (wanted : Wanted) (u : UnpackedSoFar) (head : Entry) (whole : KnowsWhole u)
     (fits : FitsData head) where
   abbrev happened : Event
   happened = event_of head.message
@@ -335,10 +335,10 @@ unfolding open_of
 none_whole = refl
 
 -- What holds of the heads so far and of those to come holds of all heads, if each head keeps it.
-module _ (wanted : Wanted) (P : Unpacked → List Entry → Type 0)
-    (step : (u : Unpacked) (head : Entry) (more : List Entry) → KnowsWhole u → FitsData head
+module _ (wanted : Wanted) (P : UnpackedSoFar → List Entry → Type 0)
+    (step : (u : UnpackedSoFar) (head : Entry) (more : List Entry) → KnowsWhole u → FitsData head
     → P u (head ∷ more) → P (with_head wanted u head) more) where
-  through_from : (heads : List Entry) (u : Unpacked) → AreRead heads → KnowsWhole u → P u heads
+  through_from : (heads : List Entry) (u : UnpackedSoFar) → AreRead heads → KnowsWhole u → P u heads
       → P (fold (with_head wanted) u heads) []
   through_from [] u read whole so = so
   through_from (head ∷ more) u read whole so =

@@ -20,7 +20,7 @@ use Rattle.link_tool_pack.specs.Segments.{cutting_of, Sending, cut_at, segment_b
 use Rattle.link_tools_laws.specs.{Ranges.{OptionsFit, InputFits}, RoundTrip.{all, good_lines, UnpacksToBundles}}
 use Rattle.link_tools_laws.specs.PackedStream.{TransferFits, IsGoodForPeer}
 use Rattle.link_tools_laws.specs.Transfers.{lines_of, are_good, by_transfers}
-use Rattle.link_tools_laws.specs.Listed.{size_of_segment, segment_lines, size_of_segments, chunks_of, term_line, bundle_lines, IsListed}
+use Rattle.link_tools_laws.specs.Listed.{size_of_segment, segment_lines, size_of_segments, chunks_of, term_line, bundle_lines, ListsAsPacked}
 use Rattle.link_tools_laws.proofs.Carried.{AreCarried, packed_carried, packed_transfers, onto, onto_all, rest_onto, transfer_of}
 use Rattle.link_tools_laws.proofs.Entries.{IsDivided, is_divided, IsBundle, IsRest, AreBundles, contents, packed_reading, packed_is, init_bytes, init_entry, bundle_entries, term_entries, packed_entries, chunk_of, segment_entries}
 use Rattle.link_tools_laws.proofs.{Same.whole_is, Texts.message_lines-append}
@@ -231,6 +231,6 @@ module _ (options : PackOptions) where
 
 module _ (options : PackOptions) (bytes : List ℕ) (is_packed : IsPacked options bytes)
     (clean : (packed options bytes).status ≡ 0) where
-  pub listed : IsListed options bytes (packed options bytes).texts.output
+  pub listed : ListsAsPacked options bytes (packed options bytes).texts.output
   unfolding listing_of
   listed = grind (arith, append_assoc, messages_listed, nothing_left)

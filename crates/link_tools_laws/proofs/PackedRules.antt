@@ -14,7 +14,7 @@ use Rattle.link_transfer.specs.{Announced.announced_of, Chunks.chunk_count, Cutt
 use Rattle.link_transfer.specs.{Order.{open_of, with_taken}, Event.event_of}
 use Rattle.link_transfer.specs.declared.joiner.Turn.{Turn}
 use Rattle.link_transfer.proofs.{Joining.IsJoinerAt-none, Due.chunk_left}
-use Rattle.link_session_rules.specs.{Heads.JudgedHead, MessageRules.broken_rules}
+use Rattle.link_session_rules.specs.{Heads.HeadWithJudgement, MessageRules.broken_rules}
 use Rattle.link_session_rules.specs.{Lengths.{segments_of, peer_transfer}, Flags.contact_flags}
 use Rattle.link_session_rules.specs.TransferRules.{broken_transfer_rules, length_item, length_differs, length_of_one_segment}
 use Rattle.link_report_broken_rules.specs.declared.line.RuleText.{RuleText}
@@ -52,7 +52,7 @@ module _ (options : PackOptions) (peer : PeerLimits) (allows : AllowsLimits opti
   module _ (id k offset : ℕ) (whole : Bool) (bytes : List ℕ)
       (within : length bytes ≤ options.peer_transfer)
       (few : k < chunk_count (segment_size options) (length bytes))
-      (taken : List Message) (before : List JudgedHead)
+      (taken : List Message) (before : List HeadWithJudgement)
       (at : At id (sending options whole bytes) k taken before) where
     abbrev part : Sending
     part = sending options whole bytes
@@ -60,7 +60,7 @@ module _ (options : PackOptions) (peer : PeerLimits) (allows : AllowsLimits opti
     abbrev last : Bool
     last = last_at id part k
 
-    abbrev seen : JudgedHead
+    abbrev seen : HeadWithJudgement
     seen = record {
       message = message_of id part k;
       fault = None;
@@ -127,13 +127,13 @@ module _ (options : PackOptions) (peer : PeerLimits) (allows : AllowsLimits opti
 
 module _ (peer : PeerLimits) where
   -- these events break only rules of closed transfers, whichever transfer began last
-  abbrev OnlyClosed : (before : List JudgedHead) → List WalkEvent → Type 0
+  abbrev OnlyClosed : (before : List HeadWithJudgement) → List WalkEvent → Type 0
   OnlyClosed before events =
       (latest : Option Begun)
       → passing is_closed (broken_from peer before latest events)
       ≡ broken_from peer before latest events
 
-  bytes_closed : (bytes : List ℕ) (whole : Bool) (before : List JudgedHead)
+  bytes_closed : (bytes : List ℕ) (whole : Bool) (before : List HeadWithJudgement)
       (rest : List WalkEvent) → OnlyClosed before rest
       → OnlyClosed before ((data_events bytes ++ (if whole then Whole ∷ [] else [])) ++ rest)
   bytes_closed [] true before rest only latest =
@@ -142,18 +142,18 @@ module _ (peer : PeerLimits) where
   bytes_closed (byte ∷ bytes) whole before rest only latest =
       bytes_closed bytes whole before rest only (latest_with latest (Data byte))
 
-  content_closed : (effect : Option Turn) (size : ℕ) (content : List ℕ) (before : List JudgedHead)
+  content_closed : (effect : Option Turn) (size : ℕ) (content : List ℕ) (before : List HeadWithJudgement)
       (rest : List WalkEvent) → OnlyClosed before rest
       → OnlyClosed before (content_events effect size content ++ rest)
   content_closed effect size content before rest only = grind (arith, bytes_closed)
 
   module _ (options : PackOptions) (allows : AllowsLimits options peer) where
-    abbrev IsClear : List Message → (before : List JudgedHead) → List Transfer → List Entry → Type 0
+    abbrev IsClear : List Message → (before : List HeadWithJudgement) → List Transfer → List Entry → Type 0
     IsClear taken before transfers heads =
         Come (Clear options peer allows) (Closed options peer allows) taken before transfers heads
 
     -- and they leave no transfer open
-    heads_closed : (heads : List Entry) (taken : List Message) (before : List JudgedHead)
+    heads_closed : (heads : List Entry) (taken : List Message) (before : List HeadWithJudgement)
         (transfers : List Transfer) → IsClear taken before transfers heads
         → OnlyClosed before (walk_events true taken heads)
         × (is_some (open_of (taken_by true taken heads)) ≡ false)

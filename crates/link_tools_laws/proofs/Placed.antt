@@ -13,7 +13,7 @@ use Rattle.link_bundle_types.specs.declared.fault.BundleFault.{BundleFault}
 use Rattle.link_bundle_types.specs.declared.info.BundleInfo.{BundleInfo}
 use Rattle.link_bundle_blocks.specs.Bundle.{verdict}
 use Rattle.link_transfer.specs.{declared.fault.OrderFault.OrderFault, declared.joiner.Turn.Turn}
-use Rattle.link_session_rules.specs.{Heads.JudgedHead, Flags.contact_flags, TransferData.data_rule}
+use Rattle.link_session_rules.specs.{Heads.HeadWithJudgement, Flags.contact_flags, TransferData.data_rule}
 use Rattle.link_session_rules.specs.TransferRules.{broken_transfer_rules, length_item, length_differs, length_of_one_segment}
 use Rattle.link_session_rules.specs.declared.rule.MessageRule.{MessageRule}
 use Rattle.link_session_rules.specs.declared.rule.TransferRule.TheVariants.{Unfinished}
@@ -59,11 +59,11 @@ module _ (peer : PeerLimits) where
   options must = record { must = must; peer = peer }
 
   -- the rules that are broken with this event, after these heads
-  abbrev pub broken_with : List JudgedHead → (latest : Option Begun) → WalkEvent → List RuleText
+  abbrev pub broken_with : List HeadWithJudgement → (latest : Option Begun) → WalkEvent → List RuleText
   broken_with heads latest event =
       broken_by (options false) (record { heads = heads; latest = latest; good = true }) event
 
-  abbrev pub broken_from : List JudgedHead → (latest : Option Begun) → List WalkEvent
+  abbrev pub broken_from : List HeadWithJudgement → (latest : Option Begun) → List WalkEvent
       → List RuleText
   broken_from heads latest [] = []
   broken_from heads latest (event ∷ more) =
@@ -71,7 +71,7 @@ module _ (peer : PeerLimits) where
       ++ broken_from (heads_with heads event) (latest_with latest event) more
 
   -- the rules that events break come before those that are broken with more
-  pub broken_first : (heads : List JudgedHead) (latest : Option Begun) (events more : List WalkEvent)
+  pub broken_first : (heads : List HeadWithJudgement) (latest : Option Begun) (events more : List WalkEvent)
       → IsFront (broken_from heads latest events) (broken_from heads latest (events ++ more))
   broken_first heads latest [] more = front_none _
   broken_first heads latest (event ∷ events) more =
@@ -80,7 +80,7 @@ module _ (peer : PeerLimits) where
 
   module _ (must : Bool) where
     -- if none of the rules counts that more events break, none does that these break
-    pub none_before : (heads : List JudgedHead) (latest : Option Begun)
+    pub none_before : (heads : List HeadWithJudgement) (latest : Option Begun)
         (events more : List WalkEvent) → IsFront events more
         → none_counts must (broken_from heads latest more) ≡ true
         → none_counts must (broken_from heads latest events) ≡ true
@@ -223,7 +223,7 @@ module _ (peer : PeerLimits) where
   -- ---- one event
 
   -- what one more event does
-  record AfterOne (opened : Bool) (placed : List Placed) (heads : List JudgedHead)
+  record AfterOne (opened : Bool) (placed : List Placed) (heads : List HeadWithJudgement)
       (latest : Option Begun) (event : WalkEvent) : Type 0 where
     pub after : List Placed
     pub are : transfers_in after ≡ after_event (transfers_in placed) event
@@ -238,7 +238,7 @@ module _ (peer : PeerLimits) where
       let none = none_pass is_closed (λ one. rule.Message one) offset (λ one. refl) broken in
       grind (arith, all_closed, filter-append)
 
-  module _ (heads : List JudgedHead) (latest : Option Begun) where
+  module _ (heads : List HeadWithJudgement) (latest : Option Begun) where
     -- an event that changes nothing
     passes : (opened : Bool) (placed : List Placed) (event : WalkEvent)
         → after_event (transfers_in placed) event ≡ transfers_in placed
@@ -310,7 +310,7 @@ module _ (peer : PeerLimits) where
   -- ---- events
 
   event_after : (before : List WalkEvent) (event : WalkEvent) (placed : List Placed)
-      (heads : List JudgedHead) (latest : Option Begun) → Follows before event
+      (heads : List HeadWithJudgement) (latest : Option Begun) → Follows before event
       → (has_open before ≡ true → IsOpenAt latest placed)
       → AfterOne (has_open before) placed heads latest event
   event_after before (ContactHeader contact) placed heads latest follows at =
@@ -341,13 +341,13 @@ module _ (peer : PeerLimits) where
   event_after before event [] heads latest opened at = absurd (at opened)
 
   -- what more events do, which follow the first ones
-  pub record AfterAll (placed : List Placed) (heads : List JudgedHead) (latest : Option Begun)
+  pub record AfterAll (placed : List Placed) (heads : List HeadWithJudgement) (latest : Option Begun)
       (more : List WalkEvent) : Type 0 where
     pub after : List Placed
     pub are : transfers_in after ≡ after_events (transfers_in placed) more
     pub rules : rules_of after ≡ rules_of placed ++ closed_in (broken_from peer heads latest more)
 
-  pub all_after : (more before : List WalkEvent) (placed : List Placed) (heads : List JudgedHead)
+  pub all_after : (more before : List WalkEvent) (placed : List Placed) (heads : List HeadWithJudgement)
       (latest : Option Begun) → AllFollow before more
       → (has_open before ≡ true → IsOpenAt latest placed) → AfterAll placed heads latest more
   all_after [] before placed heads latest follow at = record {

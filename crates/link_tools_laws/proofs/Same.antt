@@ -18,7 +18,7 @@ use Rattle.link_run_over_transfers.specs.declared.consumer.Manner.{Manner}
 use Rattle.link_run_judge.specs.Transfers.{Transfer, after_message}
 use Rattle.link_run_judge.specs.Unpacking.{parts_of, unpack_tool, Told, told_after, unpack_telling, with_line, line_due, told_event}
 use Rattle.link_run_judge.proofs.Events.{told_then, told_push}
-use Rattle.link_tools_laws.specs.Transfers.{Ordered, ordered_by, ordered_after, ordered, transfers_of, settled, lines_of, abandoned_line, unpacking_by, Unpacked, with_head, unpacked_of, going_on_by, are_good, none_unpacked, made_of, by_transfers}
+use Rattle.link_tools_laws.specs.Transfers.{Ordered, ordered_by, ordered_after, ordered, transfers_of, settled, lines_of, abandoned_line, unpacking_by, UnpackedSoFar, with_head, unpacked_of, going_on_by, are_good, none_unpacked, made_of, by_transfers}
 use Rattle.link_tools_laws.specs.Cuts.{entries_of, going_on, stopping, IsSameIfInOrder}
 use Rattle.link_tools_laws.proofs.Whole.{AreRead, FitsData, ReadingReads, reading_read}
 use Rattle.link_tools_laws.proofs.OneHead.{lines_due, abandoned_due, settled_all, lines_are, all_good, goods_due, goods_are, KnowsWhole, added, through, heads_whole}
@@ -116,13 +116,13 @@ after_all transfers heads =
 
 module _ (wanted : Wanted) where
   -- The heads so far are in order, and so are those to come. All together make these transfers.
-  pub record MadeInOrder (makes : List Transfer) (u : Unpacked) (more : List Entry) : Type 0 where
+  pub record MadeInOrder (makes : List Transfer) (u : UnpackedSoFar) (more : List Entry) : Type 0 where
     pub in_order : u.in_order ≡ true
     pub report : u.report ≡ lines_of wanted (settled u.transfers)
     pub rest : ordered_after u.taken more ≡ all more
     pub made : after_all u.transfers more ≡ makes
 
-  in_order_step : (makes : List Transfer) (u : Unpacked) (head : Entry) (more : List Entry)
+  in_order_step : (makes : List Transfer) (u : UnpackedSoFar) (head : Entry) (more : List Entry)
       → KnowsWhole u → FitsData head → MadeInOrder makes u (head ∷ more)
       → MadeInOrder makes (with_head wanted u head) more
   in_order_step makes u head more whole fits so =
@@ -169,21 +169,21 @@ abbrev walk_from : Manner → Walked → List Entry → Walked
 walk_from manner from heads = fold (with_next manner) from heads
 
 module _ (wanted : Wanted) (all_heads : Bool) where
-  abbrev settled_good : Unpacked → Bool
+  abbrev settled_good : UnpackedSoFar → Bool
   settled_good u = all_good (entries_of wanted (settled u.transfers))
 
   -- what is said of the heads that have made this
-  abbrev pub said : Unpacked → Told
+  abbrev pub said : UnpackedSoFar → Told
   said u =
       record { transfers = u.transfers; report = u.report; good = settled_good u && u.in_order }
 
   -- The walk has come to this, and then the other heads follow.
-  record TellsAll (all : Walked) (u : Unpacked) (more : List Entry) : Type 0 where
+  record TellsAll (all : Walked) (u : UnpackedSoFar) (more : List Entry) : Type 0 where
     pub events : List WalkEvent
     pub told : told_after wanted events ≡ said u
     pub walked : walk_from (going all_heads) (started u.taken events) more ≡ all
 
-  tells_step : (all : Walked) (u : Unpacked) (head : Entry) (more : List Entry) → KnowsWhole u
+  tells_step : (all : Walked) (u : UnpackedSoFar) (head : Entry) (more : List Entry) → KnowsWhole u
       → FitsData head → TellsAll all u (head ∷ more) → TellsAll all (with_head wanted u head) more
   tells_step all u head more whole fits so =
       let new = added wanted u head whole fits in
@@ -279,7 +279,7 @@ module _ (wanted : Wanted) where
 
   -- ---- the end of a stream
 
-  abbrev at_end : Unpacked → Told
+  abbrev at_end : UnpackedSoFar → Told
   at_end unpacked = record {
     transfers = unpacked.transfers;
     report = unpacked.report ++ abandoned_line wanted unpacked.transfers;
@@ -291,13 +291,13 @@ module _ (wanted : Wanted) where
       told_then wanted told (if opened then LeftOpen ∷ [] else []) ≡ with_line wanted opened told)
   end_by opened transfers report good = grind (arith, and-true, append-nil)
 
-  end_said : (u : Unpacked) → KnowsWhole u
+  end_said : (u : UnpackedSoFar) → KnowsWhole u
       → told_then wanted (said wanted false u) (end_events u.taken) ≡ at_end u
   end_said u whole =
       rw (← whole, end_by, goods_are wanted u.transfers, ← settled_all wanted u.transfers)
       (grind (arith, goods_due, list_all-append))
 
-  module _ (all_heads : Bool) (walked : Walked) (u : Unpacked)
+  module _ (all_heads : Bool) (walked : Walked) (u : UnpackedSoFar)
       (tells : TellsAll wanted all_heads walked u []) where
     unrefused : walked.refused ≡ None
     unrefused = ap (λ (w : Walked). w.refused) (sym tells.walked)

@@ -23,25 +23,25 @@ IsGoodOrUnread content (Bad fault offset) = may_be_bundle (unread_of content) fa
 IsGoodOrUnread content (Good info) = Unit {0}
 
 -- the report may have this transfer
-abbrev pub IsAllowed : Transfer → Type 0
-IsAllowed transfer = IsGoodOrUnread transfer.content (judgement_of transfer)
+abbrev pub IsAllowedTransfer : Transfer → Type 0
+IsAllowedTransfer transfer = IsGoodOrUnread transfer.content (judgement_of transfer)
 
 -- the fault of a head is that it is a second SESS_INIT
 abbrev pub IsSecondInit : ℕ × OrderFault → Type 0
 IsSecondInit fault = fault.1 ≡ SecondSessInit
 
 -- the stream stops at no fault, or at a second SESS_INIT
-abbrev pub MayStop : Option StreamStop → Type 0
-MayStop None = Unit {0}
-MayStop (Some stop) = (offset : ℕ) × (stop.fault ≡ Order offset SecondSessInit)
+abbrev pub IsAllowedStop : Option StreamStop → Type 0
+IsAllowedStop None = Unit {0}
+IsAllowedStop (Some stop) = (offset : ℕ) × (stop.fault ≡ Order offset SecondSessInit)
 
 -- The only faults in the reports of `unpack` are abandoned transfers, data that may be bundles, and
 -- a second SESS_INIT. `DividesOutput` and `DividesOutputGoingOn` say what the reports are.
 pub record HasOnlyAllowed (bytes : List ℕ) : Type 0 where
   -- where a fault of the order ends the run
-  pub stop : MayStop (stream_stop bytes)
-  pub transfers : All IsAllowed (reported bytes)
+  pub stop : IsAllowedStop (stream_stop bytes)
+  pub transfers : All IsAllowedTransfer (reported bytes)
   -- where a fault of the order does not end the run
   pub unstopped : stop_of (reading_of bytes).end ≡ None
   pub faults : All IsSecondInit (faults_after [] (heads_of (reading_of bytes)))
-  pub transfers_on : (wanted : Wanted) → All IsAllowed (reported_on wanted bytes)
+  pub transfers_on : (wanted : Wanted) → All IsAllowedTransfer (reported_on wanted bytes)

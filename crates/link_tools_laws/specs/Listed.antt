@@ -77,7 +77,7 @@ packed_lines options bundles =
     ++ bundle_lines options 0 (31 + length options.node.items) bundles
 
 -- listing the stream writes these lines, and finds no fault
-pub record IsListed (options : PackOptions) (bytes stream : List ℕ) : Type 0 where
+pub record ListsAsPacked (options : PackOptions) (bytes stream : List ℕ) : Type 0 where
   pub output : (list_tool.whole stream).texts.output
       ≡ packed_lines options (divided options.peer_transfer bytes).bundles
   pub report : (list_tool.whole stream).texts.report ≡ []

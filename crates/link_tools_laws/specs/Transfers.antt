@@ -80,7 +80,7 @@ unpacking_by wanted end order =
 -- ---- a stream that goes on after a fault of the order
 
 -- what `unpack` makes of the heads so far, and what it needs for the next head
-pub record Unpacked : Type 0 where
+pub record UnpackedSoFar : Type 0 where
   -- the messages on which the order of the next head depends: stray segments are left out
   pub taken : List Message
   -- the transfers, the latest first
@@ -91,7 +91,7 @@ pub record Unpacked : Type 0 where
   pub in_order : Bool
 
 -- before the first head
-abbrev pub none_unpacked : Unpacked
+abbrev pub none_unpacked : UnpackedSoFar
 none_unpacked = record { taken = []; transfers = []; report = []; in_order = true }
 
 -- the line of the latest transfer, if it is not closed, and so is abandoned now
@@ -120,7 +120,7 @@ transfer_lines false wanted event before after =
     ++ (if is_segment event then closed_line wanted after else [])
 
 -- one more head: first the line of its fault, then the lines of transfers
-abbrev pub with_head : Wanted → Unpacked → Entry → Unpacked
+abbrev pub with_head : Wanted → UnpackedSoFar → Entry → UnpackedSoFar
 with_head wanted before head =
     let event = event_of head.message in
     let fault = refusal before.taken event in
@@ -136,12 +136,12 @@ with_head wanted before head =
     }
 
 -- what `unpack` makes of these heads, if a fault of the order does not end the run
-unfoldable pub unpacked_of : Wanted → List Entry → Unpacked
+unfoldable pub unpacked_of : Wanted → List Entry → UnpackedSoFar
 unpacked_of wanted heads = fold (with_head wanted) none_unpacked heads
 
 -- What `unpack` makes of a stream if a fault of the order does not end the run. Only the end of the
 -- reading stops the stream. At a clean end the open transfer is abandoned.
-abbrev pub going_on_by : Wanted → End → Unpacked → Made
+abbrev pub going_on_by : Wanted → End → UnpackedSoFar → Made
 going_on_by wanted end unpacked = record {
   texts = record { output = parts_of wanted unpacked.transfers; report = unpacked.report };
   stop = stop_of end;

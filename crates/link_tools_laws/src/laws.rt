@@ -20,7 +20,7 @@ ghost use Rattle.link_tool_check.specs.Checking.{check_tool};
 ghost use Rattle.link_tool_pack.specs.Packing.{pack_tool};
 ghost use Rattle.link_tools_laws.specs.Checked.{HasOnlyAllowed};
 ghost use Rattle.link_tools_laws.specs.Cuts.{going_on, stopping, HasEveryByte, HasEveryTakenByte, DividesOutput, DividesOutputGoingOn, IsSameIfInOrder};
-ghost use Rattle.link_tools_laws.specs.Listed.{IsListed};
+ghost use Rattle.link_tools_laws.specs.Listed.{ListsAsPacked};
 ghost use Rattle.link_tools_laws.specs.PackedRules.{AllowsLimits, KeepsInitRules, BreaksNoMore};
 ghost use Rattle.link_tools_laws.specs.PackedStream.{IsGoodForPeer};
 ghost use Rattle.link_tools_laws.specs.Prefix.{HasPrefixTexts};
@@ -107,7 +107,7 @@ pub fn check_of_pack(options: &PackOptions, bytes: &[u8])
 #[tactic(auto, using(crate::proofs::Packed::is_packed, crate::proofs::Packed::listed))]
 pub fn list_of_pack(options: &PackOptions, bytes: &[u8])
     ensures { ((pack_tool options.now).whole bytes.now).status ≡ 0
-        → IsListed options.now bytes.now ((pack_tool options.now).whole bytes.now).texts.output }
+        → ListsAsPacked options.now bytes.now ((pack_tool options.now).whole bytes.now).texts.output }
 {
     options_fit(options);
     input_fits(bytes);

@@ -4,7 +4,7 @@ use Rattle.byteorder.specs.Endian.{big_number}
 use Rattle.link_io.specs.{Device.Input, Source.{window_of, IsLive, Takes}}
 use Rattle.link_io.specs.declared.source.Source.{Source}
 use Rattle.link_wire.specs.{Getting.IsPart}
-use Rattle.link_wire.specs.Inner.{inner_segment, IsInner, inner_bytes, PassedInner}
+use Rattle.link_wire.specs.Inner.{inner_segment, HasInnerSegment, inner_bytes, PassedInner}
 use Rattle.link_wire.specs.Message.{message_at}
 use Rattle.link_wire.specs.Session.{IsSessionAt, GivenMessage}
 use Rattle.link_wire.specs.declared.session.Phase.TheVariants as phase
@@ -27,7 +27,7 @@ pub inner_head : (window : List ℕ) → 18 ≤ length window → slice_index wi
 inner_head window enough is none =
     rw none at (later_head window enough is (rw none (λ is. absurd (omega arith))))
 
-bytes_size : (id size : ℕ) (window : List ℕ) → IsInner id window size
+bytes_size : (id size : ℕ) (window : List ℕ) → HasInnerSegment id window size
     → length (inner_bytes window size) ≡ size
 bytes_size id size window is =
     let within = is.within in
@@ -36,7 +36,7 @@ bytes_size id size window is =
 -- the head was given, and then the data
 module _ {R : Type 0} {look : R → Input} (old new : Session R) (history : List ℕ)
     (at : IsSessionAt look old history) (between : old.left ≡ 0) (source : Source R) (id size : ℕ)
-    (is : IsInner id (window_of old.source) size)
+    (is : HasInnerSegment id (window_of old.source) size)
     (head : Takes look old.source source (take 18 (window_of old.source)))
     (rest : window_of source ≡ drop 18 (window_of old.source)) (live : IsLive look source)
     (body : Takes look source new.source (take size (window_of source)))

@@ -1,4 +1,4 @@
--- Relations, but for ItemLies, LiesAt: what is read of a list of bytes at an offset, and where it
+-- Relations, but for ItemLies, MessageLies: what is read of a list of bytes at an offset, and where it
 -- lies.
 use Rattle.std.specs.Prelude.{◌≡◌, ℕ, ◌+◌, ◌≤◌, true, false, List, [], length, take, drop, Result, Ok, Err}
 use Rattle.arrayvec.specs.ArrayVec.{ArrayVec}
@@ -56,7 +56,7 @@ LocatesItem owner bytes left offset (Err fault) =
 
 -- The part is some items, and then the bytes from the offset `next` on. The items end where they
 -- have to: `next` is `end`.
-pub record EndsBefore (bytes : List ℕ) (end : ℕ) (part : Part (ArrayVec Item)) (next : ℕ) : Type 0 where
+pub record ItemsEndAt (bytes : List ℕ) (end : ℕ) (part : Part (ArrayVec Item)) (next : ℕ) : Type 0 where
   pub items : ArrayVec Item
   pub is : part ≡ Ok (items, drop next bytes)
   pub within : next ≤ length bytes
@@ -65,7 +65,7 @@ pub record EndsBefore (bytes : List ℕ) (end : ℕ) (part : Part (ArrayVec Item
 -- the result of reading the items of a list: the offset at which they end, which is `end`, or their
 -- fault
 abbrev pub LocatesEnd : List ℕ → (end : ℕ) → Part (ArrayVec Item) → Result ℕ WireFault → Type 0
-LocatesEnd bytes end part (Ok next) = EndsBefore bytes end part next
+LocatesEnd bytes end part (Ok next) = ItemsEndAt bytes end part next
 LocatesEnd bytes end part (Err fault) = part ≡ Err fault
 
 -- these items are read from the span, which comes after a list's length, and end at `next`
@@ -95,11 +95,11 @@ pub record SegmentItemsLie (flags : ℕ) (bytes : List ℕ) (span : Span)
   pub without_start : is_start flags ≡ false → (items ≡ record { items = [] }) × (span.length ≡ 0)
 
 -- the items of a message lie at the span, if it is a SESS_INIT or a segment
-abbrev pub HasList : Fields → List ℕ → Span → ArrayVec Item → Type 0
-HasList (fields.SessInit interval segment_mru transfer_mru) bytes span items =
+abbrev pub MessageItemsLie : Fields → List ℕ → Span → ArrayVec Item → Type 0
+MessageItemsLie (fields.SessInit interval segment_mru transfer_mru) bytes span items =
     (next : ℕ) × ItemsLieAt Session bytes span items next
-HasList (fields.Segment flags id size) bytes span items = SegmentItemsLie flags bytes span items
-HasList _ bytes span items = Unit {0}
+MessageItemsLie (fields.Segment flags id size) bytes span items = SegmentItemsLie flags bytes span items
+MessageItemsLie _ bytes span items = Unit {0}
 
 -- in a SESS_INIT, the items begin four bytes after the node ID, and end where the message ends
 pub record SessionSpansFit (node items : Span) (end : ℕ) : Type 0 where
@@ -121,17 +121,17 @@ SpansFit _ node items end = Unit {0}
 
 -- The part is the message that `found` describes: its numbers, and where its node ID and its items
 -- lie. The bytes after the message begin at `found.end`.
-pub record LiesAt (bytes : List ℕ) (part : Part Message) (found : MessageAt) : Type 0 where
+pub record MessageLies (bytes : List ℕ) (part : Part Message) (found : MessageAt) : Type 0 where
   pub items : ArrayVec Item
   pub is : part ≡ Ok (
     message_with found.fields (record { items = span_bytes bytes found.node }) items,
     drop found.end bytes,
   )
-  pub list : HasList found.fields bytes found.items items
+  pub list : MessageItemsLie found.fields bytes found.items items
   pub spans : SpansFit found.fields found.node found.items found.end
   pub within : found.end ≤ length bytes
 
 -- the part is the message that lies there, or the fault
 abbrev pub LocatesMessage : List ℕ → Part Message → Result MessageAt WireFault → Type 0
-LocatesMessage bytes part (Ok found) = LiesAt bytes part found
+LocatesMessage bytes part (Ok found) = MessageLies bytes part found
 LocatesMessage bytes part (Err fault) = part ≡ Err fault

@@ -14,12 +14,12 @@ inner_segment id size =
 
 -- The window begins with a segment of this transfer that has no flags and some data. All of its
 -- data, which has this size, is in the window.
-pub record IsInner (id : ℕ) (window : List ℕ) (size : ℕ) : Type 0 where
+pub record HasInnerSegment (id : ℕ) (window : List ℕ) (size : ℕ) : Type 0 where
   pub some : 0 < size
   pub within : 18 + size ≤ length window
   pub is : IsPart message_at (take 18 window) (inner_segment id size)
 
--- the data of a segment as `IsInner` has it: `size` bytes after the 18 bytes of its head
+-- the data of a segment as `HasInnerSegment` has it: `size` bytes after the 18 bytes of its head
 abbrev pub inner_bytes : (window : List ℕ) → (size : ℕ) → List ℕ
 inner_bytes window size = take size (drop 18 window)
 

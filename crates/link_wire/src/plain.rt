@@ -5,7 +5,7 @@
 
 ghost use Rattle.std.specs.Prelude.{◌≡◌, ◌<◌, ◌≤◌, length, slice_index, slice_range, IfSome};
 ghost use Rattle.byteorder.specs.Endian.{big_number};
-ghost use Rattle.link_wire.specs.Plain.{IsHead};
+ghost use Rattle.link_wire.specs.Plain.{HasPlainHead};
 
 use crate::codes::{KEEPALIVE, MSG_REJECT, SESS_TERM, START, XFER_ACK, XFER_REFUSE, XFER_SEGMENT};
 use crate::message::Fields;
@@ -36,7 +36,7 @@ pub fn id_and_length(window: &[u8]) -> (u64, u64)
 #[inline(always)]
 fn segment(window: &[u8]) -> Option<(Fields, usize)>
     requires { slice_index window.now 0 ≡ XFER_SEGMENT }
-    ensures { IfSome result (λ head. IsHead window.now head.0 head.1) }
+    ensures { IfSome result (λ head. HasPlainHead window.now head.0 head.1) }
 {
     if window.len() < PLAIN_HEAD {
         return None;
@@ -62,7 +62,7 @@ fn segment(window: &[u8]) -> Option<(Fields, usize)>
 #[inline(always)]
 fn ack(window: &[u8]) -> Option<(Fields, usize)>
     requires { slice_index window.now 0 ≡ XFER_ACK }
-    ensures { IfSome result (λ head. IsHead window.now head.0 head.1) }
+    ensures { IfSome result (λ head. HasPlainHead window.now head.0 head.1) }
 {
     if window.len() < PLAIN_HEAD {
         return None;
@@ -77,7 +77,7 @@ fn ack(window: &[u8]) -> Option<(Fields, usize)>
 #[inline(always)]
 fn refuse(window: &[u8]) -> Option<(Fields, usize)>
     requires { slice_index window.now 0 ≡ XFER_REFUSE }
-    ensures { IfSome result (λ head. IsHead window.now head.0 head.1) }
+    ensures { IfSome result (λ head. HasPlainHead window.now head.0 head.1) }
 {
     if window.len() < 10 {
         return None;
@@ -92,7 +92,7 @@ fn refuse(window: &[u8]) -> Option<(Fields, usize)>
 #[inline(always)]
 fn sess_term(window: &[u8]) -> Option<(Fields, usize)>
     requires { slice_index window.now 0 ≡ SESS_TERM }
-    ensures { IfSome result (λ head. IsHead window.now head.0 head.1) }
+    ensures { IfSome result (λ head. HasPlainHead window.now head.0 head.1) }
 {
     if window.len() < 3 {
         return None;
@@ -107,7 +107,7 @@ fn sess_term(window: &[u8]) -> Option<(Fields, usize)>
 #[inline(always)]
 fn msg_reject(window: &[u8]) -> Option<(Fields, usize)>
     requires { slice_index window.now 0 ≡ MSG_REJECT }
-    ensures { IfSome result (λ head. IsHead window.now head.0 head.1) }
+    ensures { IfSome result (λ head. HasPlainHead window.now head.0 head.1) }
 {
     if window.len() < 3 {
         return None;
@@ -125,7 +125,7 @@ fn msg_reject(window: &[u8]) -> Option<(Fields, usize)>
 #[tactic(auto, using(crate::proofs::Plains::keepalive_head))]
 #[inline(always)]
 pub fn plain(window: &[u8]) -> Option<(Fields, usize)>
-    ensures { IfSome result (λ head. IsHead window.now head.0 head.1) }
+    ensures { IfSome result (λ head. HasPlainHead window.now head.0 head.1) }
 {
     if window.is_empty() {
         return None;

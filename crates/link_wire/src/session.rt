@@ -36,7 +36,7 @@ impl<R: InDevice> Session<R> {
     ghost use Rattle.link_wire.specs.Halt.{stop_at};
     ghost use Rattle.link_io.specs.Limits.{window_size};
     ghost use Rattle.link_io.specs.Source.{is_fresh, reader_of, given_by, window_of, front_of, reach};
-    ghost use Rattle.link_wire.specs.Plain.{IsHead};
+    ghost use Rattle.link_wire.specs.Plain.{HasPlainHead};
     ghost use Rattle.link_wire.specs.MessageBuffer.{message_of, SegmentTotalsFit};
     ghost use Rattle.link_wire.specs.Session.{source_of, may_open, may_read, is_opened, IsSessionAt, HasEnoughForContact, HasEndedBetween, HasEnoughForNext, HasStopped, left_of, data_in, AfterOpen, GivenMessage, ReadsNext};
     ghost use Rattle.link_wire.specs.declared.session.Phase.TheVariants as phase;
@@ -176,7 +176,7 @@ impl<R: InDevice> Session<R> {
     /// It is `None` if the window begins with no such head, and after a stop.
     #[inline(always)]
     fn head_here(&self) -> Option<(Fields, usize)>
-        ensures head { IfSome result (λ head. IsHead (window_of self.now.source) head.0 head.1) }
+        ensures head { IfSome result (λ head. HasPlainHead (window_of self.now.source) head.0 head.1) }
         ensures again { HasEndedBetween self.now → result ≡ None }
         ensures stopped { (stop : _) → HasStopped self.now stop → result ≡ None }
     {
@@ -306,7 +306,7 @@ impl<R: InDevice> Session<R> {
     ghost use Rattle.link_io.specs.Source.{reader_of, window_of, reach};
     ghost use Rattle.link_wire.specs.Message.{data_length};
     ghost use Rattle.link_wire.specs.MessageBuffer.{message_of, message_with, SegmentTotalsFit};
-    ghost use Rattle.link_wire.specs.Plain.{IsHead};
+    ghost use Rattle.link_wire.specs.Plain.{HasPlainHead};
     ghost use Rattle.link_wire.specs.Session.{source_of, may_read, is_opened, HasEndedBetween, HasStopped, IsSessionAt};
     ghost use Rattle.link_wire.specs.Whole.{GivenWholeMessage, PassedQuietMessages};
 

@@ -8,7 +8,7 @@ ghost use Rattle.std.specs.Prelude.{◌≡◌, ℕ, ◌+◌, ◌≤◌, List, []
 ghost use Rattle.link_wire.specs.Part.{Part, bytes_at, number_at};
 ghost use Rattle.link_wire.specs.MessageBuffer.{message_with};
 ghost use Rattle.link_wire.specs.Message.{is_total_length, contact_at, node_at, total_at, item_head_at, items_of, list_at, segment_at, ack_at, refuse_at, sess_term_at, msg_reject_at, sess_init_at, fields_at, message_at};
-ghost use Rattle.link_wire.specs.InSlice.{read_part, read_node, read_head, LocatesItem, LocatesEnd, HasList, SpansFit, LiesAt, LocatesList, LocatesMessage};
+ghost use Rattle.link_wire.specs.InSlice.{read_part, read_node, read_head, LocatesItem, LocatesEnd, MessageItemsLie, SpansFit, MessageLies, LocatesList, LocatesMessage};
 
 use crate::codes::{
     ITEM_HEAD, KEEPALIVE, MAGIC, MSG_REJECT, SESS_INIT, SESS_TERM, START, TOTAL_SIZE,
@@ -160,9 +160,9 @@ fn plain_at(fields: Fields, end: usize) -> MessageAt
           message_with fields (record { items = [] }) (record { items = [] }),
           drop end bytes,
         )
-        → HasList fields bytes result.items (record { items = [] })
+        → MessageItemsLie fields bytes result.items (record { items = [] })
         → SpansFit fields result.node result.items end → end ≤ length bytes
-        → LiesAt bytes part result }
+        → MessageLies bytes part result }
 {
     MessageAt {
         fields,

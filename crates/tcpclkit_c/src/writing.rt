@@ -9,7 +9,7 @@ ghost use Rattle.link_cbor.specs.Crc.{crc};
 ghost use Rattle.link_cbor.specs.declared.check.CheckKind.{CheckKind};
 ghost use Rattle.link_ffi_numbers.specs.Bundle.{eid_by};
 ghost use Rattle.link_ffi_writer.specs.Bundles.{primary_bytes_by, block_bytes_by};
-ghost use Rattle.link_ffi_writer.specs.Checks.{kind_by, kind_of, HasFed};
+ghost use Rattle.link_ffi_writer.specs.Checks.{kind_by, kind_of, IsKeptCheckAt};
 ghost use Rattle.link_ffi_writer.specs.Messages.{HasFields, IsNoMessage, item_by};
 ghost use Rattle.link_ffi_writer.specs.Written.{written_shown, ReturnsWritten};
 ghost use Rattle.link_wire.specs.Spelling.{contact_bytes};
@@ -143,7 +143,7 @@ pub extern "C" fn tcpclkit_raw_write_block_head(
 #[unsafe(no_mangle)]
 pub extern "C" fn tcpclkit_raw_start_check(check: &mut KeptCheck, kind: u64) -> u32
     ensures started { (known : CheckKind) → kind_by kind ≡ Some known
-        → (result ≡ 0) × HasFed known check.new [] }
+        → (result ≡ 0) × IsKeptCheckAt known check.new [] }
     ensures range { kind_by kind ≡ None
         → (result ≡ 6) × (check.new ≡ record { kind = 0; state = 0 }) }
 {
@@ -162,8 +162,8 @@ pub extern "C" fn tcpclkit_raw_start_check(check: &mut KeptCheck, kind: u64) -> 
 /// Feeds a piece to a check.
 #[unsafe(no_mangle)]
 pub extern "C" fn tcpclkit_raw_feed_check(check: &mut KeptCheck, piece: &[u8]) -> u32
-    ensures fed { (kind : CheckKind) (before : List ℕ) → HasFed kind check.old before
-        → (result ≡ 0) × HasFed kind check.new (before ++ piece.now) }
+    ensures fed { (kind : CheckKind) (before : List ℕ) → IsKeptCheckAt kind check.old before
+        → (result ≡ 0) × IsKeptCheckAt kind check.new (before ++ piece.now) }
     ensures range { kind_of check.old ≡ None → (result ≡ 6) × (check.new ≡ check.old) }
 {
     if check.feed(piece) { OK } else { RANGE }
@@ -172,7 +172,7 @@ pub extern "C" fn tcpclkit_raw_feed_check(check: &mut KeptCheck, piece: &[u8]) -
 /// The check value of the bytes that were fed.
 #[unsafe(no_mangle)]
 pub extern "C" fn tcpclkit_raw_end_check(check: &KeptCheck, value: &mut u64) -> u32
-    ensures value { (kind : CheckKind) (bytes : List ℕ) → HasFed kind check.now bytes
+    ensures value { (kind : CheckKind) (bytes : List ℕ) → IsKeptCheckAt kind check.now bytes
         → (result ≡ 0) × (value.new ≡ crc kind bytes) }
     ensures range { kind_of check.now ≡ None → (result ≡ 6) × (value.new ≡ 0) }
 {
@@ -195,7 +195,7 @@ pub extern "C" fn tcpclkit_raw_write_check(
     bytes: &mut [u8],
     written: &mut Written,
 ) -> u32
-    ensures field { (kind : CheckKind) (block : List ℕ) → HasFed kind check.now block
+    ensures field { (kind : CheckKind) (block : List ℕ) → IsKeptCheckAt kind check.now block
         → ReturnsWritten (Some (check_field kind block)) bytes.old bytes.new written.new result }
     ensures range { kind_of check.now ≡ None
         → ReturnsWritten None bytes.old bytes.new written.new result }

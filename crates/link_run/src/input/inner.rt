@@ -5,7 +5,7 @@ use link_wire::{InDevice, OutDevice, Session};
 
 impl<R: InDevice, W: OutDevice, E: OutDevice> Input<Session<R>, W, E> {
     ghost use Rattle.std.specs.Prelude.{◌≡◌, ◌<◌, ℕ, List, length, IfSome, None, IsTrue};
-    ghost use Rattle.link_wire.specs.Inner.{IsInner, inner_bytes, PassedInner};
+    ghost use Rattle.link_wire.specs.Inner.{HasInnerSegment, inner_bytes, PassedInner};
     ghost use Rattle.link_wire.specs.Session.{source_of, may_read, is_opened, HasStopped, IsSessionAt};
     ghost use Rattle.link_wire.specs.Source.{given_by, window_of};
     ghost use Rattle.link_run.specs.Reading.{feed_of, ReadsNothing};
@@ -23,7 +23,7 @@ impl<R: InDevice, W: OutDevice, E: OutDevice> Input<Session<R>, W, E> {
     #[inline(always)]
     pub fn inner_data(&self, id: u64) -> Option<&[u8]>
         ensures is { IfSome result (λ bytes.
-            IsInner id (window_of (source_of (feed_of self.now))) (length bytes.now)) }
+            HasInnerSegment id (window_of (source_of (feed_of self.now))) (length bytes.now)) }
         ensures bytes { IfSome result (λ bytes.
             bytes.now ≡ inner_bytes (window_of (source_of (feed_of self.now))) (length bytes.now)) }
         ensures stopped { (stop : _) → HasStopped (feed_of self.now) stop → result ≡ None }
@@ -38,11 +38,11 @@ impl<R: InDevice, W: OutDevice, E: OutDevice> Input<Session<R>, W, E> {
     #[inline(always)]
     pub fn pass_inner(&mut self, size: usize)
         requires may_read { IsTrue (may_read (feed_of self.old)) }
-        requires inner { (id : ℕ) × IsInner id (window_of (source_of (feed_of self.old))) size }
+        requires inner { (id : ℕ) × HasInnerSegment id (window_of (source_of (feed_of self.old))) size }
         ensures may_read { IsTrue (may_read (feed_of self.new)) }
         ensures opened { IsTrue (is_opened (feed_of self.new)) }
         ensures gives { (id : ℕ) (history : List ℕ) → IsSessionAt R.state (feed_of self.old) history
-            → IsInner id (window_of (source_of (feed_of self.old))) size
+            → HasInnerSegment id (window_of (source_of (feed_of self.old))) size
             → PassedInner R.state (feed_of self.old) (feed_of self.new) history id
             (inner_bytes (window_of (source_of (feed_of self.old))) size) }
         ensures shrinks { length (window_of (source_of (feed_of self.new)))

@@ -4,7 +4,7 @@
 //! section 5.2.2).
 
 ghost use Rattle.std.specs.Prelude.{IfSome};
-ghost use Rattle.link_wire.specs.Inner.{IsInner};
+ghost use Rattle.link_wire.specs.Inner.{HasInnerSegment};
 
 use super::{Phase, Session};
 use crate::plain::{PLAIN_HEAD, id_and_length};
@@ -20,7 +20,7 @@ const INNER: u16 = 0x0100;
 #[tactic(auto, using(crate::proofs::Inners::inner_head, crate::proofs::Inners::two_bytes))]
 #[inline(always)]
 fn inner_size(window: &[u8], id: u64) -> Option<usize>
-    ensures { IfSome result (IsInner id window.now) }
+    ensures { IfSome result (HasInnerSegment id window.now) }
 {
     if window.len() < PLAIN_HEAD {
         return None;
@@ -41,7 +41,7 @@ fn inner_size(window: &[u8], id: u64) -> Option<usize>
 impl<R: InDevice> Session<R> {
     ghost use Rattle.std.specs.Prelude.{◌≡◌, ◌<◌, ℕ, List, length, IfSome, None, IsTrue};
     ghost use Rattle.link_io.specs.Source.{reader_of, window_of, reach};
-    ghost use Rattle.link_wire.specs.Inner.{IsInner, inner_bytes, PassedInner};
+    ghost use Rattle.link_wire.specs.Inner.{HasInnerSegment, inner_bytes, PassedInner};
     ghost use Rattle.link_wire.specs.Session.{source_of, may_read, is_opened, HasStopped, IsSessionAt};
 
     /// The data of the next message, if this is an inner segment of this transfer that has data,
@@ -51,7 +51,7 @@ impl<R: InDevice> Session<R> {
     #[inline(always)]
     pub fn inner_data(&self, id: u64) -> Option<&[u8]>
         ensures is { IfSome result (λ bytes.
-            IsInner id (window_of (source_of self.now)) (length bytes.now)) }
+            HasInnerSegment id (window_of (source_of self.now)) (length bytes.now)) }
         ensures bytes { IfSome result (λ bytes.
             bytes.now ≡ inner_bytes (window_of (source_of self.now)) (length bytes.now)) }
         ensures stopped { (stop : _) → HasStopped self.now stop → result ≡ None }
@@ -71,12 +71,12 @@ impl<R: InDevice> Session<R> {
     #[inline(always)]
     pub fn pass_inner(&mut self, size: usize)
         requires may_read { IsTrue (may_read self.old) }
-        requires inner { (id : ℕ) × IsInner id (window_of (source_of self.old)) size }
+        requires inner { (id : ℕ) × HasInnerSegment id (window_of (source_of self.old)) size }
         ensures reader { reader_of (source_of self.new) ≡ reader_of (source_of self.old) }
         ensures may_read { IsTrue (may_read self.new) }
         ensures opened { IsTrue (is_opened self.new) }
         ensures gives { (id : ℕ) (history : List ℕ) → IsSessionAt R.state self.old history
-            → IsInner id (window_of (source_of self.old)) size
+            → HasInnerSegment id (window_of (source_of self.old)) size
             → PassedInner R.state self.old self.new history id
             (inner_bytes (window_of (source_of self.old)) size) }
         ensures shrinks { length (window_of (source_of self.new))

@@ -1,11 +1,11 @@
 use Rattle.std.proofs.Common.{◌≡◌, ℕ, List, length, Option, Some, None, refl, ap, ◌∙◌, arith}
 use Rattle.std.specs.Prelude.{IfSome}
 use Rattle.link_io.proofs.Sources.{ended_window}
-use Rattle.link_wire.specs.{Plain.IsHead, declared.message.Fields.Fields}
+use Rattle.link_wire.specs.{Plain.HasPlainHead, declared.message.Fields.Fields}
 use Rattle.link_wire.proofs.session.Session.head_here.Goals as goal
 
 no_head : (window : List ℕ) (found : Option (Fields × ℕ)) → length window ≡ 0
-    → IfSome found (λ head. IsHead window head.0 head.1) → found ≡ None
+    → IfSome found (λ head. HasPlainHead window head.0 head.1) → found ≡ None
 no_head window None empty is = refl
 no_head window (Some head) empty is = absurd (omega (arith, empty, is.some, is.within))
 
