@@ -12,8 +12,9 @@
  *       refuse(verdict.fault.code, verdict.fault.offset);
  *
  * What is proved. Each function `tcpclkit_NAME` but tcpclkit_abi is inline: it tests pointers and
- * lengths, and calls `tcpclkit_raw_NAME` of the library. The paragraph "Proved" in a comment says
- * what the contract of the raw function says. The words in `backticks` there are definitions of the
+ * lengths, and calls `tcpclkit_raw_NAME` of the library. Only tcpclkit_write_total and the
+ * functions for default options have no raw function. The paragraph "Proved" in a comment says what
+ * the contract of the raw function says. The words in `backticks` there are definitions of the
  * folders `specs/` of the source, which docs/DEFINITIONS.md explains. Each raw function returns,
  * whatever the bytes and the numbers are, and reads and writes only what it was lent. Those that
  * take a scan require one in its memory, or room to start one. The inline functions are tested, and
@@ -44,8 +45,8 @@
  * Slices. A function writes into a slice from its first byte on. The bytes after that stay.
  *
  * Fields. Each field of each struct is a uint64_t, so there is no padding. A field that the
- * comments do not name for a kind of message is 0. After TCPCLKIT_TRUNCATED and TCPCLKIT_FAULT, so
- * is each field of a contact header, a message or an item but `fault`.
+ * comments do not name for a kind of message is 0. After TCPCLKIT_TRUNCATED and TCPCLKIT_FAULT of
+ * the call that reads a contact header, a message or an item, so is each of its fields but `fault`.
  */
 #ifndef TCPCLKIT_H
 #define TCPCLKIT_H
@@ -395,6 +396,17 @@ enum {
   TCPCLKIT_BLOCK_CANONICAL = 2
 };
 
+/* Types of canonical blocks (RFC 9171 sections 4.4 and 9.1), the last two for security (RFC 9172
+ * section 11.1). */
+enum {
+  TCPCLKIT_BLOCK_TYPE_PAYLOAD = 1,
+  TCPCLKIT_BLOCK_TYPE_PREVIOUS_NODE = 6,
+  TCPCLKIT_BLOCK_TYPE_BUNDLE_AGE = 7,
+  TCPCLKIT_BLOCK_TYPE_HOP_COUNT = 10,
+  TCPCLKIT_BLOCK_TYPE_INTEGRITY = 11,
+  TCPCLKIT_BLOCK_TYPE_CONFIDENTIALITY = 12
+};
+
 /* The types of check values (RFC 9171 section 4.2.1). */
 enum {
   TCPCLKIT_CHECK_NONE = 0,
@@ -412,7 +424,7 @@ struct tcpclkit_block {
   uint64_t block_type;  /* CANONICAL: the block type code; 1 is the payload block, the last one */
   uint64_t number;      /* CANONICAL: the block number */
   uint64_t flags;       /* CANONICAL: of the block; PRIMARY: of the bundle */
-  uint64_t check;       /* one of the types above */
+  uint64_t check;       /* one of the types of check values above */
   uint64_t data_offset; /* CANONICAL: where its data begins */
   uint64_t data_length; /* CANONICAL: in bytes, by its head */
   uint64_t data_seen;   /* CANONICAL: how many of these bytes are there; all, if it is whole */
@@ -510,8 +522,10 @@ static inline uint32_t tcpclkit_judge_scan(const struct tcpclkit_scan *scan,
 }
 
 /*
- * Gives the verdict on a whole transfer, after its last byte: on `length` bytes as one bundle,
- * those that were taken and those that came after them. `length` is the number of both.
+ * Gives the verdict on `length` bytes as one bundle: those that were taken and those that came
+ * after them. `length` is the number of both. After the last byte of a transfer, this is the
+ * verdict on the whole transfer. The call may also be made after each segment, since the scan stays
+ * as it was: then TCPCLKIT_TRUNCATED says that the bundle goes on.
  *
  * The statuses are those of tcpclkit_judge_bundle of all these bytes. If the bundle still needed
  * bytes, `fault` is TCPCLKIT_BUNDLE_CUT at `length`. If more came than the bundle has, it is
@@ -572,7 +586,9 @@ static inline uint32_t tcpclkit_describe_scan(const struct tcpclkit_scan *scan,
 /*
  * The greatest length of a message without its data. A buffer of that size holds every head, and is
  * enough to receive a session, since the data of a segment is handed on as it comes. The bytes
- * after the contact header, with an end of input that is no part of them:
+ * after the contact header, with an end of input that is no part of them, are read as follows. The
+ * loop drops each head at its end. Node IDs and items are in the head, so a caller who needs them
+ * reads them directly after tcpclkit_judge_message:
  *
  *     struct tcpclkit_order order;
  *     struct tcpclkit_message message;
@@ -609,6 +625,9 @@ struct tcpclkit_contact {
   uint64_t flags;
 };
 
+/* The flag of a contact header that offers TLS (RFC 9174 section 4.2). */
+#define TCPCLKIT_CONTACT_CAN_TLS 1u
+
 /* The kinds of messages, which are their type bytes (RFC 9174 section 4.5). */
 enum {
   TCPCLKIT_XFER_SEGMENT = 1,
@@ -623,6 +642,42 @@ enum {
 /* Flags of a segment (RFC 9174 section 5.2.2). */
 #define TCPCLKIT_SEGMENT_END 1u
 #define TCPCLKIT_SEGMENT_START 2u
+
+/* The flag of a SESS_TERM that answers another one (RFC 9174 section 6.1). */
+#define TCPCLKIT_SESS_TERM_REPLY 1u
+
+/* The flag of an extension item that the receiver has to know (RFC 9174 sections 4.8, 5.2.5), and
+ * the type of a Transfer Length item (section 5.2.5.1), which only an XFER_SEGMENT has. */
+#define TCPCLKIT_ITEM_CRITICAL 1u
+#define TCPCLKIT_ITEM_TYPE_TRANSFER_LENGTH 1u
+
+/* The reasons of an XFER_REFUSE (RFC 9174 section 5.2.4). */
+enum {
+  TCPCLKIT_REFUSE_UNKNOWN = 0,
+  TCPCLKIT_REFUSE_COMPLETED = 1,
+  TCPCLKIT_REFUSE_NO_RESOURCES = 2,
+  TCPCLKIT_REFUSE_RETRANSMIT = 3,
+  TCPCLKIT_REFUSE_NOT_ACCEPTABLE = 4,
+  TCPCLKIT_REFUSE_EXTENSION_FAILURE = 5,
+  TCPCLKIT_REFUSE_SESSION_TERMINATING = 6
+};
+
+/* The reasons of a SESS_TERM (RFC 9174 section 6.1). */
+enum {
+  TCPCLKIT_TERM_UNKNOWN = 0,
+  TCPCLKIT_TERM_IDLE_TIMEOUT = 1,
+  TCPCLKIT_TERM_VERSION_MISMATCH = 2,
+  TCPCLKIT_TERM_BUSY = 3,
+  TCPCLKIT_TERM_CONTACT_FAILURE = 4,
+  TCPCLKIT_TERM_RESOURCE_EXHAUSTION = 5
+};
+
+/* The reasons of a MSG_REJECT (RFC 9174 section 5.1.2). */
+enum {
+  TCPCLKIT_REJECT_TYPE_UNKNOWN = 1,
+  TCPCLKIT_REJECT_UNSUPPORTED = 2,
+  TCPCLKIT_REJECT_UNEXPECTED = 3
+};
 
 /* A message. Each field names the kinds that have it; for the others it is 0. */
 struct tcpclkit_message {
@@ -662,7 +717,9 @@ struct tcpclkit_item {
 /*
  * Reads the contact header that a recording begins with.
  *
- * TCPCLKIT_OK, TCPCLKIT_TRUNCATED or TCPCLKIT_FAULT.
+ * TCPCLKIT_OK. TCPCLKIT_TRUNCATED: there are fewer than TCPCLKIT_CONTACT_LENGTH bytes, or none. So
+ * a first byte that is wrong is a fault only once all bytes of the header are there.
+ * TCPCLKIT_FAULT: the first four bytes are not `dtn!`, or the version is not 4.
  *
  * Proved of tcpclkit_raw_read_contact: the answer is `contact_at` of the bytes.
  */
@@ -712,10 +769,11 @@ static inline uint32_t tcpclkit_read_message(const uint8_t *bytes, size_t length
  *          offset = item.next)
  *       use(&item);
  *
- * At the end of the list, the status is TCPCLKIT_END. TCPCLKIT_RANGE: the message has no list,
- * being neither a SESS_INIT nor an XFER_SEGMENT, or its list is not within the bytes or has more
- * than 65,536, or the offset is not in the list. TCPCLKIT_FAULT: the item does not end within the
- * list, which no item of a message does that was read from these bytes.
+ * At the end of the list, the status is TCPCLKIT_END. So it is for a segment without START at
+ * `items_offset`: its list is empty. TCPCLKIT_RANGE: the message has no list, being neither a
+ * SESS_INIT nor an XFER_SEGMENT, or its list is not within the bytes or has more than 65,536, or
+ * the offset is not in the list. TCPCLKIT_FAULT: the item does not end within the list, which no
+ * item of a message does that was read from these bytes.
  *
  * Proved of tcpclkit_raw_read_item: the answer is `item_head_at` and `total_at` at the offset.
  */
@@ -770,12 +828,14 @@ static inline uint32_t tcpclkit_read_announced(const uint8_t *bytes, size_t leng
 /* -- the order of messages --------------------------------------------------------------------- */
 
 /*
- * What of the messages so far decides which may come next. It belongs to the caller, who starts it
- * before the first message of a session, and then only hands it on.
+ * The state of one direction of a session: which messages of one side have come so far. The calls
+ * below judge the next message of this side by it. It belongs to the caller, who starts it before
+ * the first message of a session, and then only hands it on. It knows nothing of the messages of
+ * the other side, such as its SESS_TERM: they have an order of their own.
  */
 struct tcpclkit_order {
-  uint64_t initiated;  /* 1 after a SESS_INIT */
-  uint64_t terminated; /* 1 after a SESS_TERM */
+  uint64_t initiated;  /* 1 after a SESS_INIT of this side */
+  uint64_t terminated; /* 1 after a SESS_TERM of this side */
   uint64_t is_open;    /* 1 while a transfer is open */
   uint64_t transfer;   /* the open transfer */
 };
@@ -812,10 +872,19 @@ static inline uint32_t tcpclkit_start_order(struct tcpclkit_order *order) {
 /*
  * Judges whether a message may come now, and if so counts it among those that came.
  *
+ * It refuses, with the codes of the order in their sequence: a second SESS_INIT; a segment before a
+ * SESS_INIT; a segment without START whose transfer is not open; a START with the ID of the open
+ * transfer; and a START after a SESS_TERM. Nothing else is judged: an XFER_ACK, a KEEPALIVE or a
+ * SESS_TERM passes also before a SESS_INIT.
+ *
  * The message is one that tcpclkit_read_message gave with TCPCLKIT_OK or TCPCLKIT_DATA_TRUNCATED.
- * Only `kind`, `flags` and `id` are read. TCPCLKIT_OK: it may come. TCPCLKIT_FAULT: it may not, and
- * `order` stays as it was. TCPCLKIT_RANGE: `kind` is none of a message, as after a fault, `flags`
- * are above 255, or `order` has a field above 1 that is 0 or 1.
+ * Only `kind`, `flags` and `id` are read. The fields of the message stay, whatever the status is.
+ * TCPCLKIT_OK: it may come. TCPCLKIT_FAULT: it may not, and `order` stays as it was. So after
+ * TCPCLKIT_ORDER_START_AFTER_SESS_TERM, each further segment of that transfer has the fault
+ * TCPCLKIT_ORDER_NO_SUCH_OPEN_TRANSFER. This suits a caller who stops at the first fault. One who
+ * goes on calls tcpclkit_take_message. TCPCLKIT_RANGE: `kind` is none of a message, as after a
+ * fault of tcpclkit_read_message, `flags` are above 255, or `order` has a field above 1 that is 0
+ * or 1.
  *
  * Proved of tcpclkit_raw_judge_message: if `order` is that of some messages, the answer is
  * `judged_message` of this message after them; and if it was accepted, `order` is then that of
@@ -841,6 +910,10 @@ static inline uint32_t tcpclkit_judge_message(struct tcpclkit_order *order,
  * may not. Then `fault` is the reason, and the other fields are what it does all the same: a
  * segment with START begins its transfer, and a further segment of no open transfer is
  * TCPCLKIT_TURN_STRAY, whose data belongs nowhere. TCPCLKIT_RANGE: as for tcpclkit_judge_message.
+ *
+ * This call suits a receiver that refuses a START with an XFER_REFUSE and goes on. The further
+ * segments of the transfer are then TCPCLKIT_TURN_CONTINUE, without a fault, and have to be refused
+ * too (RFC 9174 section 5.2.4). The receiver itself keeps which transfer it refuses.
  *
  * Proved of tcpclkit_raw_take_message: if `order` is that of some messages, `fault` is `refusal` of
  * this message after them, and the other fields are its `effect_of`. `order` is then that of
@@ -893,6 +966,10 @@ struct tcpclkit_sent {
  * does not hold, which `fault` says; the other fields stay. TCPCLKIT_RANGE: the message is no
  * answer, tcpclkit_write_message would refuse its numbers, or `whole` is above 1. Then `sent` stays
  * as it was.
+ *
+ * The message is judged by the fields of `sent` alone. It is not judged whether an XFER_REFUSE or
+ * the XFER_ACK of the whole came before it, nor whether an XFER_ACK has the START flag of its
+ * segment. A caller who rejects an answer after these keeps which transfers have had one.
  *
  * Proved of tcpclkit_raw_judge_answer: the status and `fault` are `judged_answer` of what was sent
  * and of the message, and `acknowledged` is that of `after_answer`. So after some answers that were
@@ -971,8 +1048,7 @@ static inline uint32_t tcpclkit_write_contact(uint64_t flags, uint8_t *bytes, si
 
 /*
  * Writes an extension item (RFC 9174 sections 4.8 and 5.2.5). Items one after another are the items
- * of a message. A Transfer Length item (section 5.2.5.1) has type 1, and as its value the length of
- * the transfer in 8 bytes, the most significant first.
+ * of a message. tcpclkit_write_total writes a Transfer Length item.
  *
  * The statuses are those of tcpclkit_write_contact; TCPCLKIT_RANGE if the flags are above 255, the
  * type is above 65,535, or the value has more than 65,531 bytes, for which no list has room.
@@ -993,6 +1069,23 @@ static inline uint32_t tcpclkit_write_item(uint64_t flags, uint64_t item_type,
   if (status != TCPCLKIT_OK) return status;
   return tcpclkit_raw_write_item(flags, item_type, tcpclkit_start(value), value_length,
                                  tcpclkit_start(bytes), room, written);
+}
+
+/*
+ * Writes a Transfer Length item (RFC 9174 section 5.2.5.1), which announces the length of a
+ * transfer: its type is TCPCLKIT_ITEM_TYPE_TRANSFER_LENGTH, and its value is `total` in 8 bytes,
+ * the most significant first. It needs TCPCLKIT_TOTAL_LENGTH bytes, and belongs to the first
+ * segment of a transfer of several segments.
+ *
+ * It calls tcpclkit_write_item, and its statuses are those of that call. No total is out of range.
+ */
+static inline uint32_t tcpclkit_write_total(uint64_t flags, uint64_t total, uint8_t *bytes,
+                                            size_t room, struct tcpclkit_written *written) {
+  uint8_t value[8];
+  int at;
+  for (at = 0; at < 8; at++) value[at] = (uint8_t)(total >> (56 - 8 * at));
+  return tcpclkit_write_item(flags, TCPCLKIT_ITEM_TYPE_TRANSFER_LENGTH, value, sizeof value, bytes,
+                             room, written);
 }
 
 /*

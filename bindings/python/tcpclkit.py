@@ -43,6 +43,42 @@ FAULT_ROOM, EID_ROOM, WORDS_ROOM, NAME_ROOM = 64, 4100, 4500, 64
 FIRST_ROOM = 4096  # for each text of a tool, as long as its length is not known
 WRITER_ROOM = 64  # the same for a message or a block
 
+# Flags, and a type of items (RFC 9174 sections 4.2, 6.1, 4.8 and 5.2.5)
+CONTACT_CAN_TLS = 1  # a flag of contact headers
+SESS_TERM_REPLY = 1  # a flag of SESS_TERM
+ITEM_CRITICAL = 1  # a flag of items
+ITEM_TYPE_TRANSFER_LENGTH = 1  # a type of items
+
+# The reasons of an XFER_REFUSE (RFC 9174 section 5.2.4)
+REFUSE_UNKNOWN = 0
+REFUSE_COMPLETED = 1
+REFUSE_NO_RESOURCES = 2
+REFUSE_RETRANSMIT = 3
+REFUSE_NOT_ACCEPTABLE = 4
+REFUSE_EXTENSION_FAILURE = 5
+REFUSE_SESSION_TERMINATING = 6
+
+# The reasons of a SESS_TERM (RFC 9174 section 6.1)
+TERM_UNKNOWN = 0
+TERM_IDLE_TIMEOUT = 1
+TERM_VERSION_MISMATCH = 2
+TERM_BUSY = 3
+TERM_CONTACT_FAILURE = 4
+TERM_RESOURCE_EXHAUSTION = 5
+
+# The reasons of a MSG_REJECT (RFC 9174 section 5.1.2)
+REJECT_TYPE_UNKNOWN = 1
+REJECT_UNSUPPORTED = 2
+REJECT_UNEXPECTED = 3
+
+# The types of canonical blocks (RFC 9171 sections 4.4 and 9.1, RFC 9172 section 11.1)
+BLOCK_TYPE_PAYLOAD = 1
+BLOCK_TYPE_PREVIOUS_NODE = 6
+BLOCK_TYPE_BUNDLE_AGE = 7
+BLOCK_TYPE_HOP_COUNT = 10
+BLOCK_TYPE_INTEGRITY = 11
+BLOCK_TYPE_CONFIDENTIALITY = 12
+
 
 class Code(IntEnum):
     """What is wrong. docs/FORMATS.md has the rule that each one breaks."""
@@ -998,15 +1034,27 @@ def write_contact(flags=0):
 def write_item(item):
     """Returns an extension item (RFC 9174 sections 4.8 and 5.2.5). Its `total` is not read.
 
-        total = tcpclkit.Item(flags=0, item_type=1, value=length.to_bytes(8, "big"))
+        item = tcpclkit.Item(tcpclkit.ITEM_CRITICAL, item_type=0x8000, value=b"hello")
+        content = tcpclkit.write_item(item)
 
-    This one announces the length of a transfer (section 5.2.5.1).
+    ITEM_CRITICAL says that the receiver has to know the type.
     """
     lent = _Lent(item.value)
     flags = _number("flags", item.flags, most=255)
     item_type = _number("item_type", item.item_type, most=65535)
     _number("the length of value", len(lent.kept), most=LIST_LIMIT - 5)
     return _written("write_item", flags, item_type, *lent.slice)
+
+
+def total_item(total, flags=0):
+    """Returns the Transfer Length item that announces a length (RFC 9174 section 5.2.5.1).
+
+        items = [tcpclkit.total_item(length)]
+
+    It belongs to the first segment of a transfer of several segments.
+    """
+    value = _number("total", total).to_bytes(8, "big")
+    return Item(flags, ITEM_TYPE_TRANSFER_LENGTH, value, total)
 
 
 def write_message(message):
@@ -1073,7 +1121,7 @@ class Turn(NamedTuple):
 
 
 class Order(_State):
-    """The messages of a session so far, as far as they decide which may come next."""
+    """Which messages of one side of a session have come so far. It judges the next one of it."""
 
     def __init__(self):
         super().__init__(_Order())

@@ -8,10 +8,6 @@
 #include <time.h>
 #include <tcpclkit.h>
 
-/* Numbers of RFC 9174 without a name in tcpclkit.h: sections 4.8, 5.2.5.1, 5.1.2 and 6.1 */
-enum { ITEM_CRITICAL = 1, ITEM_TOTAL = 1, TERM_REPLY = 1, REJECT_TYPE = 1, REJECT_UNEXPECTED = 3 };
-enum { TERM_UNKNOWN = 0, TERM_IDLE = 1, TERM_VERSION = 2, TERM_CONTACT = 4, TERM_RESOURCES = 5 };
-
 #define FAIL(why) exit((fprintf(stderr, "%s\n", why), 1))
 #define MUST(call) ((call) == TCPCLKIT_OK ? (void)0 : FAIL("failed: " #call))
 
@@ -67,8 +63,9 @@ static inline void give_up(struct peer *peer, uint64_t reason, const char *why) 
 /* Rejects a message (section 5.1.2), and ends the session. */
 static inline void reject(struct peer *peer, uint64_t reason, uint64_t type) {
   SAY(peer, .kind = TCPCLKIT_MSG_REJECT, .reason = reason, .header = type);
-  if (reason == REJECT_TYPE) peer->may_term = 0; /* the connection is to be closed */
-  give_up(peer, TERM_UNKNOWN, "a message of the peer was rejected");
+  if (reason == TCPCLKIT_REJECT_TYPE_UNKNOWN)
+    peer->may_term = 0; /* the connection is to be closed */
+  give_up(peer, TCPCLKIT_TERM_UNKNOWN, "a message of the peer was rejected");
 }
 
 /* Waits for bytes, and meanwhile sends each KEEPALIVE that is due (section 5.1.1). */
@@ -78,7 +75,7 @@ static inline void receive(struct peer *peer) {
   do {
     got = poll(&waits, 1, 100);
     if (got == 0 && milliseconds() - peer->came_at >= 2 * peer->interval)
-      give_up(peer, TERM_IDLE, "the peer is idle");
+      give_up(peer, TCPCLKIT_TERM_IDLE_TIMEOUT, "the peer is idle");
     if (peer->keeps_alive && milliseconds() - peer->sent_at >= peer->interval)
       SAY(peer, .kind = TCPCLKIT_KEEPALIVE);
   } while (got == 0);
@@ -107,14 +104,15 @@ static inline void next_message(struct peer *peer) {
          status == TCPCLKIT_END || status == TCPCLKIT_TRUNCATED)
     receive(peer);
   if (status == TCPCLKIT_FAULT && message->fault.code == TCPCLKIT_WIRE_UNKNOWN_TYPE)
-    reject(peer, REJECT_TYPE, message->fault.number);
+    reject(peer, TCPCLKIT_REJECT_TYPE_UNKNOWN, message->fault.number);
   if (status == TCPCLKIT_FAULT)
-    give_up(peer, peer->order.initiated ? TERM_RESOURCES : TERM_CONTACT, "a message is not read");
+    give_up(peer, peer->order.initiated ? TCPCLKIT_TERM_RESOURCE_EXHAUSTION
+                                        : TCPCLKIT_TERM_CONTACT_FAILURE, "a message is not read");
   peer->used = message->data_offset, peer->left = message->data_length;
   if (tcpclkit_take_message(&peer->order, message, &peer->turn) == TCPCLKIT_FAULT &&
       peer->turn.fault != TCPCLKIT_ORDER_START_AFTER_SESS_TERM)
-    reject(peer, REJECT_UNEXPECTED, message->kind);
+    reject(peer, TCPCLKIT_REJECT_UNEXPECTED, message->kind);
   if (message->kind == TCPCLKIT_SESS_TERM && peer->may_term)
-    SAY(peer, .kind = message->kind, .flags = message->flags | TERM_REPLY,
+    SAY(peer, .kind = message->kind, .flags = message->flags | TCPCLKIT_SESS_TERM_REPLY,
         .reason = message->reason);
 }

@@ -20,13 +20,10 @@
 #define STORAGE 262144u       /* how long a bundle may be to be stored */
 #define TRANSFER_MRU 1048576u /* how long one may be at all: section 5.2.4 has the difference */
 
-/* The reasons of an XFER_REFUSE (section 5.2.4); 0 is used for none */
-enum { NO_RESOURCES = 2, NOT_ACCEPTABLE = 4, EXTENSION_FAILURE = 5, SESSION_TERMINATING = 6 };
-
 /* The transfer that began last */
 struct transfer {
   int is_open;     /* 1 until its line is written */
-  uint64_t reason; /* why its segments are refused, or 0 */
+  uint64_t reason; /* why its segments are refused; 0, which is Unknown, if they are not */
   uint64_t id;
   uint64_t length; /* of the data that was not refused */
   struct tcpclkit_announced announced;
@@ -50,7 +47,7 @@ static void refuse(struct peer *peer, struct transfer *transfer, uint64_t reason
   if (transfer->is_open) {
     MUST(tcpclkit_write_reason_text(TCPCLKIT_XFER_REFUSE, reason, text, sizeof text, &length));
     end(transfer, "refused ", text, length);
-    failures += reason != NO_RESOURCES;
+    failures += reason != TCPCLKIT_REFUSE_NO_RESOURCES;
   }
   transfer->reason = reason;
   SAY(peer, .kind = TCPCLKIT_XFER_REFUSE, .reason = reason, .id = peer->message.id);
@@ -62,7 +59,9 @@ static int has_unknown_item(const struct peer *peer) {
   const int has_total = message->kind == TCPCLKIT_XFER_SEGMENT;
   struct tcpclkit_item item = {.next = message->items_offset};
   while (tcpclkit_read_item(peer->bytes, peer->length, message, item.next, &item) == TCPCLKIT_OK)
-    if ((item.flags & ITEM_CRITICAL) && !(has_total && item.item_type == ITEM_TOTAL)) return 1;
+    if ((item.flags & TCPCLKIT_ITEM_CRITICAL) &&
+        !(has_total && item.item_type == TCPCLKIT_ITEM_TYPE_TRANSFER_LENGTH))
+      return 1;
   return 0;
 }
 
@@ -70,14 +69,16 @@ static int has_unknown_item(const struct peer *peer) {
 static uint64_t reason_to_refuse(const struct peer *peer, const struct transfer *transfer) {
   const uint64_t length = peer->message.data_length, after = transfer->length + length;
   const struct tcpclkit_announced *const announced = &transfer->announced;
-  if (peer->turn.fault == TCPCLKIT_ORDER_START_AFTER_SESS_TERM) return SESSION_TERMINATING;
+  if (peer->turn.fault == TCPCLKIT_ORDER_START_AFTER_SESS_TERM)
+    return TCPCLKIT_REFUSE_SESSION_TERMINATING;
   if (announced->kind == TCPCLKIT_ANNOUNCED_BADLY || has_unknown_item(peer))
-    return EXTENSION_FAILURE;
-  if (length > segment_mru) return NOT_ACCEPTABLE;
-  if (announced->total > STORAGE || length > STORAGE || after > STORAGE) return NO_RESOURCES;
+    return TCPCLKIT_REFUSE_EXTENSION_FAILURE;
+  if (length > segment_mru) return TCPCLKIT_REFUSE_NOT_ACCEPTABLE;
+  if (announced->total > STORAGE || length > STORAGE || after > STORAGE)
+    return TCPCLKIT_REFUSE_NO_RESOURCES;
   if (announced->kind == TCPCLKIT_ANNOUNCED_TOTAL && /* section 5.2.5.1 */
       (after > announced->total || (peer->turn.last && after < announced->total)))
-    return NOT_ACCEPTABLE;
+    return TCPCLKIT_REFUSE_NOT_ACCEPTABLE;
   return 0;
 }
 
@@ -107,7 +108,7 @@ static void take_segment(struct peer *peer, struct transfer *transfer) {
     MUST(tcpclkit_write_fault_text(verdict.fault.code, verdict.fault.number, text, sizeof text,
                                    &length));
     end(transfer, "", text, length), failures++;
-    refuse(peer, transfer, NOT_ACCEPTABLE);
+    refuse(peer, transfer, TCPCLKIT_REFUSE_NOT_ACCEPTABLE);
   } else {
     SAY(peer, .kind = TCPCLKIT_XFER_ACK, .flags = segment->flags, .id = segment->id,
         .acknowledged = transfer->length);
@@ -132,14 +133,16 @@ static void open_session(struct peer *peer) {
   MUST(tcpclkit_write_contact(0, bytes, sizeof bytes, &written));
   send_bytes(peer, bytes, written.count);
   peer->may_term = 1;
-  if (status == TCPCLKIT_FAULT) give_up(peer, TERM_VERSION, "another version of TCPCL");
+  if (status == TCPCLKIT_FAULT)
+    give_up(peer, TCPCLKIT_TERM_VERSION_MISMATCH, "another version of TCPCL");
   peer->used = TCPCLKIT_CONTACT_LENGTH;
   next_message(peer);
   if (message->kind == TCPCLKIT_SESS_TERM) give_up(peer, 0, "the peer ends the session");
-  if (message->kind != TCPCLKIT_SESS_INIT) reject(peer, REJECT_UNEXPECTED, message->kind);
+  if (message->kind != TCPCLKIT_SESS_INIT) reject(peer, TCPCLKIT_REJECT_UNEXPECTED, message->kind);
   send_message(peer, (struct tcpclkit_message){.kind = TCPCLKIT_SESS_INIT, .keepalive = KEEPALIVE,
       .segment_mru = segment_mru, .transfer_mru = TRANSFER_MRU}, "ipn:2.0", NULL, 0);
-  if (has_unknown_item(peer)) give_up(peer, TERM_CONTACT, "an unknown item of SESS_INIT");
+  if (has_unknown_item(peer))
+    give_up(peer, TCPCLKIT_TERM_CONTACT_FAILURE, "an unknown item of SESS_INIT");
   peer->keeps_alive = message->keepalive > 0;
   if (peer->keeps_alive)
     peer->interval = 1000 * (message->keepalive < KEEPALIVE ? message->keepalive : KEEPALIVE);
@@ -182,10 +185,10 @@ int main(int count, char **arguments) {
         break;
       case TCPCLKIT_XFER_ACK: /* this side sends no bundles */
       case TCPCLKIT_XFER_REFUSE:
-        reject(&peer, REJECT_UNEXPECTED, peer.message.kind);
+        reject(&peer, TCPCLKIT_REJECT_UNEXPECTED, peer.message.kind);
         break;
       case TCPCLKIT_MSG_REJECT:
-        give_up(&peer, TERM_UNKNOWN, "the peer rejects a message");
+        give_up(&peer, TCPCLKIT_TERM_UNKNOWN, "the peer rejects a message");
     }
   } while (peer.may_term || transfer.is_open); /* no SESS_TERM yet, or a transfer goes on */
   shutdown(peer.socket, SHUT_WR);

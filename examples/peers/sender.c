@@ -2,8 +2,9 @@
  *
  *     sender HOST PORT
  *
- * The exit status is 0 if the receiver takes the first two, and refuses the third while it comes.
- * Otherwise it is 1. */
+ * It sends up to WINDOW segments before it reads the answers to them. Once it has read that a
+ * bundle is refused, it sends no further segment of it (section 5.2.4). The exit status is 0 if the
+ * receiver takes the first two bundles, and refuses the third. Otherwise it is 1. */
 #include "peer.h"
 #include <netdb.h>
 #include <netinet/in.h>
@@ -14,7 +15,7 @@
 #define KEEPALIVE 60u /* the interval that this side asks for, in seconds; not 0 */
 #endif
 #define SEGMENT 16384u  /* how many bytes of data a segment has, if the peer takes that many */
-#define WINDOW 4u       /* how many such segments may be without an answer */
+#define WINDOW 32u      /* how many such segments may be without an answer */
 #define BUNDLES 3u
 #define LONGEST 500000u /* bytes of payload */
 #define ROOM (2u + TCPCLKIT_PRIMARY_ROOM + 4u * (TCPCLKIT_BLOCK_HEAD_ROOM + TCPCLKIT_CHECK_ROOM) + \
@@ -61,13 +62,13 @@ static void make_bundle(uint64_t sequence, size_t payload_length) {
                               bundle + 1, ROOM - 1, &written));
   bundle_length = 1 + written.count;
   MUST(tcpclkit_write_eid(&node, NULL, 0, data, sizeof data, &written));
-  add_block(6, 2, data, written.count); /* previous node: RFC 9171 section 4.4.1 */
+  add_block(TCPCLKIT_BLOCK_TYPE_PREVIOUS_NODE, 2, data, written.count);
   MUST(tcpclkit_write_age(0, data, sizeof data, &written));
-  add_block(7, 3, data, written.count); /* bundle age: section 4.4.2 */
+  add_block(TCPCLKIT_BLOCK_TYPE_BUNDLE_AGE, 3, data, written.count);
   MUST(tcpclkit_write_hop_count(30, 0, data, sizeof data, &written));
-  add_block(10, 4, data, written.count); /* hop count: section 4.4.3 */
+  add_block(TCPCLKIT_BLOCK_TYPE_HOP_COUNT, 4, data, written.count);
   memset(payload, (int)('a' + sequence), payload_length);
-  add_block(1, 1, payload, payload_length);
+  add_block(TCPCLKIT_BLOCK_TYPE_PAYLOAD, 1, payload, payload_length);
   bundle[bundle_length++] = TCPCLKIT_BUNDLE_LAST;
 }
 
@@ -106,11 +107,13 @@ static void open_session(struct peer *peer) {
       .segment_mru = 65536, .transfer_mru = 1048576}, "ipn:1.0", NULL, 0);
   next_message(peer);
   if (message->kind == TCPCLKIT_SESS_TERM) give_up(peer, 0, "the peer refuses the session");
-  if (message->kind != TCPCLKIT_SESS_INIT) reject(peer, REJECT_UNEXPECTED, message->kind);
+  if (message->kind != TCPCLKIT_SESS_INIT) reject(peer, TCPCLKIT_REJECT_UNEXPECTED, message->kind);
   item.next = message->items_offset;
   while (tcpclkit_read_item(peer->bytes, peer->length, message, item.next, &item) == TCPCLKIT_OK)
-    if (item.flags & ITEM_CRITICAL) give_up(peer, TERM_CONTACT, "an unknown item of SESS_INIT");
-  if (message->segment_mru == 0) give_up(peer, TERM_CONTACT, "the peer takes no data");
+    if (item.flags & TCPCLKIT_ITEM_CRITICAL)
+      give_up(peer, TCPCLKIT_TERM_CONTACT_FAILURE, "an unknown item of SESS_INIT");
+  if (message->segment_mru == 0)
+    give_up(peer, TCPCLKIT_TERM_CONTACT_FAILURE, "the peer takes no data");
   peer->keeps_alive = message->keepalive > 0;
   if (peer->keeps_alive)
     peer->interval = 1000 * (message->keepalive < KEEPALIVE ? message->keepalive : KEEPALIVE);
@@ -121,15 +124,12 @@ static void send_segment(struct peer *peer, struct tcpclkit_sent *sent, uint64_t
   const uint64_t left = bundle_length - sent->length;
   struct tcpclkit_message segment = {.kind = TCPCLKIT_XFER_SEGMENT, .id = sent->id};
   struct tcpclkit_written written = {0, 0};
-  uint8_t total[8], item[TCPCLKIT_TOTAL_LENGTH];
-  int at;
+  uint8_t item[TCPCLKIT_TOTAL_LENGTH];
   segment.data_length = left < most ? left : most;
   if (sent->length == 0) segment.flags |= TCPCLKIT_SEGMENT_START;
   if (left <= most) segment.flags |= TCPCLKIT_SEGMENT_END;
-  if (segment.flags == TCPCLKIT_SEGMENT_START) { /* others follow: section 5.2.5.1 */
-    for (at = 0; at < 8; at++) total[at] = (uint8_t)(left >> (56 - 8 * at));
-    MUST(tcpclkit_write_item(0, ITEM_TOTAL, total, sizeof total, item, sizeof item, &written));
-  }
+  if (segment.flags == TCPCLKIT_SEGMENT_START) /* others follow: section 5.2.5.1 */
+    MUST(tcpclkit_write_total(0, left, item, sizeof item, &written));
   send_message(peer, segment, "", item, written.count);
   send_bytes(peer, bundle + sent->length, segment.data_length);
   sent->length += segment.data_length;
@@ -145,23 +145,24 @@ static void take_message(struct peer *peer, struct transfer *transfers, uint64_t
   switch (message->kind) {
     case TCPCLKIT_XFER_ACK:
     case TCPCLKIT_XFER_REFUSE:
-      if (message->id >= begun) reject(peer, REJECT_UNEXPECTED, message->kind);
+      if (message->id >= begun) reject(peer, TCPCLKIT_REJECT_UNEXPECTED, message->kind);
       transfer = transfers + message->id;
       if (transfer->state == ACKNOWLEDGED ||
           (transfer->state == REFUSED && message->kind == TCPCLKIT_XFER_ACK) ||
           tcpclkit_judge_answer(&transfer->sent, message) != TCPCLKIT_OK)
-        reject(peer, REJECT_UNEXPECTED, message->kind);
+        reject(peer, TCPCLKIT_REJECT_UNEXPECTED, message->kind);
       if (message->kind == TCPCLKIT_XFER_REFUSE) transfer->state = REFUSED;
       else if (message->flags & TCPCLKIT_SEGMENT_END) transfer->state = ACKNOWLEDGED;
       break;
-    case TCPCLKIT_XFER_SEGMENT: /* this side takes no bundles: Not Acceptable, or Terminating */
-      SAY(peer, .kind = TCPCLKIT_XFER_REFUSE, .reason = may_term ? 4 : 6, .id = message->id);
+    case TCPCLKIT_XFER_SEGMENT: /* this side takes no bundles */
+      SAY(peer, .kind = TCPCLKIT_XFER_REFUSE, .id = message->id, .reason = may_term
+          ? TCPCLKIT_REFUSE_NOT_ACCEPTABLE : TCPCLKIT_REFUSE_SESSION_TERMINATING);
       break;
     case TCPCLKIT_SESS_TERM:
       if (may_term) give_up(peer, 0, "the peer ends the session");
       break;
     case TCPCLKIT_MSG_REJECT:
-      give_up(peer, TERM_UNKNOWN, "the peer rejects a message");
+      give_up(peer, TCPCLKIT_TERM_UNKNOWN, "the peer rejects a message");
   }
 }
 
@@ -169,11 +170,10 @@ int main(int count, char **arguments) {
   static const size_t lengths[BUNDLES] = {12, 100000, LONGEST};
   static struct peer peer;
   static struct transfer transfers[BUNDLES];
-  struct pollfd waits = {.events = POLLIN};
   uint64_t id, most, longest;
   if (count != 3) FAIL("usage: sender HOST PORT");
   if (tcpclkit_abi() != TCPCLKIT_ABI) FAIL("the library has another interface");
-  peer.socket = waits.fd = connected(arguments[1], arguments[2]);
+  peer.socket = connected(arguments[1], arguments[2]);
   open_session(&peer);
   most = peer.message.segment_mru < SEGMENT ? peer.message.segment_mru : SEGMENT;
   longest = peer.message.transfer_mru;
@@ -181,18 +181,18 @@ int main(int count, char **arguments) {
     struct tcpclkit_sent *const sent = &transfers[id].sent;
     sent->id = id;
     make_bundle(id, lengths[id]);
-    if (bundle_length > longest) give_up(&peer, TERM_UNKNOWN, "the peer takes no such bundle");
+    if (bundle_length > longest)
+      give_up(&peer, TCPCLKIT_TERM_UNKNOWN, "the peer takes no such bundle");
     while (transfers[id].state == SENDING)
-      if (!sent->whole && sent->length - sent->acknowledged <= (WINDOW - 1) * most &&
-          peer.length == peer.used && poll(&waits, 1, 0) == 0)
+      if (!sent->whole && sent->length - sent->acknowledged <= (WINDOW - 1) * most)
         send_segment(&peer, sent, most);
       else
-        take_message(&peer, transfers, id + (sent->length > 0));
+        take_message(&peer, transfers, id + 1);
   }
-  SAY(&peer, .kind = TCPCLKIT_SESS_TERM, .reason = TERM_UNKNOWN);
+  SAY(&peer, .kind = TCPCLKIT_SESS_TERM, .reason = TCPCLKIT_TERM_UNKNOWN);
   do take_message(&peer, transfers, BUNDLES);
   while (peer.message.kind != TCPCLKIT_SESS_TERM);
   close(peer.socket);
   return transfers[0].state != ACKNOWLEDGED || transfers[1].state != ACKNOWLEDGED ||
-         transfers[2].state != REFUSED || transfers[2].sent.whole;
+         transfers[2].state != REFUSED;
 }

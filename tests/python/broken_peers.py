@@ -54,7 +54,14 @@ def rejected(kind):
 
 OPEN = CONTACT + sess_init()
 LENGTH, UNKNOWN = item(0, 1, struct.pack(">Q", 3)), item(1, 9)
-LONG = b"".join(segment(START * (not it), 0, b"\x9f" * 65536) for it in range(5))
+# A bundle whose payload has a megabyte, up to some of this payload, and segments of it
+GOES_ON = bytes.fromhex(
+    "9f 88 07 00 00 82 02 82 02 01 82 02 82 01 01 82 01 00 82 00 00 00"
+    "85 01 01 00 00 5a 00 10 00 00"
+).ljust(5 * 65536, b"-")
+LONG = b"".join(
+    segment(START * (at == 0), 0, GOES_ON[at:at + 65536]) for at in range(0, len(GOES_ON), 65536)
+)
 
 FAULTS = [
     Fault("receiver", "no contact header", b"dtn?", b""),

@@ -57,6 +57,35 @@ static void items(void) {
   WRITES(tcpclkit_write_item(0, 0xabcd, NULL, 0, ROOM), session_items + 6, 5);
 }
 
+/* Transfer Length items, one of them critical. tcpclkit_read_announced reads their lengths. */
+static const struct {
+  uint64_t flags, total;
+  uint8_t bytes[TCPCLKIT_TOTAL_LENGTH];
+} total_rows[] = {
+    {0, 34, {TOTAL_ITEM}},
+    {1, 0, {0x01, 0x00, 0x01, 0x00, 0x08}},
+    {0, 0x0102030405060708, {0x00, 0x00, 0x01, 0x00, 0x08, 1, 2, 3, 4, 5, 6, 7, 8}},
+    {255, UINT64_MAX,
+     {0xff, 0x00, 0x01, 0x00, 0x08, 0xff, 0xff, 0xff, 0xff, 0xff, 0xff, 0xff, 0xff}},
+};
+
+static void totals(void) {
+  struct tcpclkit_message segment = message_of(TCPCLKIT_XFER_SEGMENT, TCPCLKIT_SEGMENT_START, 7);
+  struct tcpclkit_announced announced;
+  struct tcpclkit_written written;
+  uint8_t bytes[TCPCLKIT_START_LENGTH + TCPCLKIT_TOTAL_LENGTH];
+  size_t row;
+  for (row = 0; row < sizeof total_rows / sizeof *total_rows; row++) {
+    WRITES(tcpclkit_write_total(total_rows[row].flags, total_rows[row].total, ROOM),
+           total_rows[row].bytes, TCPCLKIT_TOTAL_LENGTH);
+    CHECK(tcpclkit_write_message(&segment, NULL, 0, writing.bytes, TCPCLKIT_TOTAL_LENGTH, bytes,
+                                 sizeof bytes, &written) == TCPCLKIT_OK);
+    CHECK(tcpclkit_read_message(bytes, sizeof bytes, 0, &segment) == TCPCLKIT_OK);
+    CHECK(tcpclkit_read_announced(bytes, sizeof bytes, &segment, &announced) == TCPCLKIT_OK);
+    CHECK(announced.kind == TCPCLKIT_ANNOUNCED_TOTAL && announced.total == total_rows[row].total);
+  }
+}
+
 /* The longest item, and one that no list has room for. */
 static void longest_item(void) {
   static uint8_t value[65532], bytes[65536];
@@ -322,6 +351,7 @@ void call_message_writers(void) {
   static uint8_t node[TCPCLKIT_NODE_ID_LIMIT], bytes[2000];
   tcpclkit_write_contact(0, bytes, sizeof bytes, &written);
   tcpclkit_write_item(0, 1, node, 8, bytes, sizeof bytes, &written);
+  tcpclkit_write_total(0, 8, bytes, sizeof bytes, &written);
   init.kind = TCPCLKIT_SESS_INIT;
   tcpclkit_write_message(&init, node, sizeof node, session_items, sizeof session_items, bytes,
                          sizeof bytes, &written);
@@ -333,6 +363,7 @@ void call_message_writers(void) {
 void test_message_writers(void) {
   contacts();
   items();
+  totals();
   longest_item();
   messages();
   longest_head();

@@ -123,6 +123,7 @@ CALL(judge_answer) {
 }
 CALL(write_contact) { return tcpclkit_write_contact(0, S(0), A(written, 1)); }
 CALL(write_item) { return tcpclkit_write_item(0, 1, S(2), S(0), A(written, 1)); }
+CALL(write_total) { return tcpclkit_write_total(0, 1, S(0), A(written, 1)); }
 CALL(write_message) {
   return tcpclkit_write_message(A(message, 2), S(3), S(4), S(0), A(written, 1));
 }
@@ -200,6 +201,7 @@ static const struct call calls[] = {
      {STRUCT(sent, WRITTEN, &sent), STRUCT(message, READ, &ack)}},
     {"write_contact", write_contact, 2, {INTO(9)}},
     {"write_item", write_item, 3, {INTO(19), BYTES(hops)}},
+    {"write_total", write_total, 2, {INTO(19)}},
     {"write_message", write_message, 5,
      {INTO(99), STRUCT(message, READ, &init), BYTES(node), BYTES(item)}},
     {"write_primary", write_primary, 6,

@@ -214,6 +214,7 @@ static void kinds(void) {
   static const uint8_t term[] = {5, 1, 4}, reject[] = {6, 2, 0x16};
   static const uint8_t more[] = {1, 1, 0, 0, 0, 0, 0, 0, 0, 9, 0, 0, 0, 0, 0, 0, 0, 0};
   struct tcpclkit_message it;
+  struct tcpclkit_item item;
   CHECK(tcpclkit_read_message(ack, sizeof ack, 0, &it) == TCPCLKIT_OK &&
         it.kind == TCPCLKIT_XFER_ACK);
   CHECK(it.flags == 3 && it.id == 4 && it.acknowledged == 5 && it.next == sizeof ack);
@@ -228,6 +229,7 @@ static void kinds(void) {
   CHECK(it.kind == TCPCLKIT_MSG_REJECT && it.reason == 2 && it.header == 0x16);
   CHECK(tcpclkit_read_message(more, sizeof more, 0, &it) == TCPCLKIT_OK && it.id == 9);
   CHECK(it.flags == TCPCLKIT_SEGMENT_END && it.items_length == 0 && it.next == sizeof more);
+  CHECK(tcpclkit_read_item(more, sizeof more, &it, it.items_offset, &item) == TCPCLKIT_END);
 }
 
 /* A node ID without bytes, and lists without items, are where the caller may ask for them. */
@@ -260,6 +262,39 @@ static void longest_head(void) {
   CHECK(message.node_length == TCPCLKIT_NODE_ID_LIMIT && message.items_length == 65536);
   CHECK(message.next == TCPCLKIT_HEAD_LIMIT);
   CHECK(tcpclkit_read_message(head, sizeof head - 1, 0, &message) == TCPCLKIT_TRUNCATED);
+}
+
+/* Bytes that are no contact header: a fault once there are as many as a contact header has. */
+static void wrong_contacts(void) {
+  static const uint8_t wrong[] = {'x', 'x', 'x', 'x', 'x', 'x'};
+  struct tcpclkit_contact contact;
+  size_t length;
+  CHECK(tcpclkit_read_contact(NULL, 0, &contact) == TCPCLKIT_TRUNCATED);
+  for (length = 0; length < sizeof wrong; length++)
+    CHECK(tcpclkit_read_contact(wrong, length, &contact) == TCPCLKIT_TRUNCATED);
+  CHECK(tcpclkit_read_contact(wrong, length, &contact) == TCPCLKIT_FAULT);
+  CHECK(contact.fault.code == TCPCLKIT_WIRE_BAD_MAGIC);
+}
+
+/* A transfer after a SESS_TERM: by the call that refuses it, and by the one that goes on. An
+ * XFER_ACK passes before a SESS_INIT. */
+static void refused_transfers(void) {
+  struct tcpclkit_order one, other;
+  struct tcpclkit_turn turn;
+  tcpclkit_start_order(&one);
+  CHECK(judge(&one, TCPCLKIT_XFER_ACK, 0, 0, &turn) == TCPCLKIT_OK && one.initiated == 0);
+  CHECK(judge(&one, TCPCLKIT_KEEPALIVE, 0, 0, &turn) == TCPCLKIT_OK && one.initiated == 0);
+  CHECK(judge(&one, TCPCLKIT_SESS_INIT, 0, 0, &turn) == TCPCLKIT_OK);
+  CHECK(judge(&one, TCPCLKIT_SESS_TERM, 0, 0, &turn) == TCPCLKIT_OK);
+  other = one;
+  CHECK(judge(&one, TCPCLKIT_XFER_SEGMENT, 2, 7, &turn) == TCPCLKIT_FAULT);
+  CHECK(turn.fault == TCPCLKIT_ORDER_START_AFTER_SESS_TERM);
+  CHECK(judge(&one, TCPCLKIT_XFER_SEGMENT, 0, 7, &turn) == TCPCLKIT_FAULT);
+  CHECK(turn.fault == TCPCLKIT_ORDER_NO_SUCH_OPEN_TRANSFER);
+  CHECK(take(&other, TCPCLKIT_XFER_SEGMENT, 2, 7, &turn) == TCPCLKIT_FAULT);
+  CHECK(turn.fault == TCPCLKIT_ORDER_START_AFTER_SESS_TERM && turn.turn == TCPCLKIT_TURN_BEGIN);
+  CHECK(take(&other, TCPCLKIT_XFER_SEGMENT, 1, 7, &turn) == TCPCLKIT_OK);
+  CHECK(turn.turn == TCPCLKIT_TURN_CONTINUE && turn.last == 1);
 }
 
 static void orders(void) {
@@ -389,6 +424,8 @@ void test_recordings(void) {
   kinds();
   empty_parts();
   longest_head();
+  wrong_contacts();
+  refused_transfers();
   orders();
   wrong_orders();
   takes();

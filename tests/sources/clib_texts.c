@@ -70,6 +70,55 @@ static void names(void) {
   CHECK(it.written == 0);
 }
 
+/* The numbers that the header has of the RFCs, those of the RFCs, and the names that lines show. */
+static const struct {
+  uint64_t number, wanted;
+  const char *name;
+} reasons[] = {
+    {TCPCLKIT_REFUSE_UNKNOWN, 0, "unknown"}, /* RFC 9174 section 5.2.4, Table 6 */
+    {TCPCLKIT_REFUSE_COMPLETED, 1, "completed"},
+    {TCPCLKIT_REFUSE_NO_RESOURCES, 2, "no-resources"},
+    {TCPCLKIT_REFUSE_RETRANSMIT, 3, "retransmit"},
+    {TCPCLKIT_REFUSE_NOT_ACCEPTABLE, 4, "not-acceptable"},
+    {TCPCLKIT_REFUSE_EXTENSION_FAILURE, 5, "extension-failure"},
+    {TCPCLKIT_REFUSE_SESSION_TERMINATING, 6, "session-terminating"},
+    {TCPCLKIT_TERM_UNKNOWN, 0, "unknown"}, /* section 6.1, Table 9 */
+    {TCPCLKIT_TERM_IDLE_TIMEOUT, 1, "idle-timeout"},
+    {TCPCLKIT_TERM_VERSION_MISMATCH, 2, "version-mismatch"},
+    {TCPCLKIT_TERM_BUSY, 3, "busy"},
+    {TCPCLKIT_TERM_CONTACT_FAILURE, 4, "contact-failure"},
+    {TCPCLKIT_TERM_RESOURCE_EXHAUSTION, 5, "resource-exhaustion"},
+    {TCPCLKIT_REJECT_TYPE_UNKNOWN, 1, "message-type-unknown"}, /* section 5.1.2, Table 4 */
+    {TCPCLKIT_REJECT_UNSUPPORTED, 2, "message-unsupported"},
+    {TCPCLKIT_REJECT_UNEXPECTED, 3, "message-unexpected"},
+}, block_types[] = {
+    {TCPCLKIT_BLOCK_TYPE_PAYLOAD, 1, "payload"}, /* RFC 9171 section 9.1 */
+    {TCPCLKIT_BLOCK_TYPE_PREVIOUS_NODE, 6, "previous-node"},
+    {TCPCLKIT_BLOCK_TYPE_BUNDLE_AGE, 7, "bundle-age"},
+    {TCPCLKIT_BLOCK_TYPE_HOP_COUNT, 10, "hop-count"},
+    {TCPCLKIT_BLOCK_TYPE_INTEGRITY, 11, "block-integrity"}, /* RFC 9172 section 11.1 */
+    {TCPCLKIT_BLOCK_TYPE_CONFIDENTIALITY, 12, "block-confidentiality"},
+};
+
+static void numbers_of_the_header(void) {
+  uint64_t kind;
+  size_t row;
+  for (row = 0; row < sizeof reasons / sizeof *reasons; row++) {
+    kind = row < 7 ? TCPCLKIT_XFER_REFUSE : row < 13 ? TCPCLKIT_SESS_TERM : TCPCLKIT_MSG_REJECT;
+    CHECK(reasons[row].number == reasons[row].wanted);
+    HAS(tcpclkit_write_reason_text(kind, reasons[row].number, ROOM), reasons[row].name);
+  }
+  for (row = 0; row < sizeof block_types / sizeof *block_types; row++) {
+    CHECK(block_types[row].number == block_types[row].wanted);
+    HAS(tcpclkit_write_block_type_text(block_types[row].number, ROOM), block_types[row].name);
+  }
+  CHECK(TCPCLKIT_CONTACT_CAN_TLS == 0x01);             /* RFC 9174 section 4.2, Table 1 */
+  CHECK(TCPCLKIT_ITEM_CRITICAL == 0x01);               /* sections 4.8 and 5.2.5, Tables 3, 7 */
+  CHECK(TCPCLKIT_ITEM_TYPE_TRANSFER_LENGTH == 0x0001); /* section 8.4, Table 13 */
+  CHECK(TCPCLKIT_SEGMENT_END == 0x01 && TCPCLKIT_SEGMENT_START == 0x02); /* 5.2.2, Table 5 */
+  CHECK(TCPCLKIT_SESS_TERM_REPLY == 0x01);             /* section 6.1, Table 8 */
+}
+
 /* The room that is enough for every name, by the comments of the header. The longest names need all
  * of it. */
 static void longest_names(void) {
@@ -258,6 +307,7 @@ void call_texts(void) {
 
 void test_texts(void) {
   names();
+  numbers_of_the_header();
   longest_names();
   words_of_answers();
   texts_of_eids();

@@ -278,6 +278,8 @@ static void numbers_of_items(void) {
             TCPCLKIT_RANGE);
     REFUSES(tcpclkit_write_item((uint64_t)1 << bit, 1, some, 1, BYTES, sizeof BYTES, WRITTEN),
             TCPCLKIT_RANGE);
+    REFUSES(tcpclkit_write_total((uint64_t)1 << bit, 1, BYTES, sizeof BYTES, WRITTEN),
+            TCPCLKIT_RANGE);
     if (bit >= 16)
       REFUSES(tcpclkit_write_item(0, (uint64_t)1 << bit, some, 1, BYTES, sizeof BYTES, WRITTEN),
               TCPCLKIT_RANGE);

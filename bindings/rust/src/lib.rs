@@ -22,6 +22,7 @@ mod answer;
 mod block;
 mod building;
 mod bundle;
+mod codes;
 mod fault;
 mod order;
 mod raw;
@@ -38,6 +39,15 @@ pub use building::{
     BUNDLE_FIRST, BUNDLE_LAST,
 };
 pub use bundle::{bundle, primary, verdict, Bundle, EndpointId, Fragment, Primary, Verdict};
+pub use codes::{
+    BLOCK_TYPE_BUNDLE_AGE, BLOCK_TYPE_CONFIDENTIALITY, BLOCK_TYPE_HOP_COUNT, BLOCK_TYPE_INTEGRITY,
+    BLOCK_TYPE_PAYLOAD, BLOCK_TYPE_PREVIOUS_NODE, CONTACT_CAN_TLS, ITEM_CRITICAL,
+    ITEM_TYPE_TRANSFER_LENGTH, REFUSE_COMPLETED, REFUSE_EXTENSION_FAILURE, REFUSE_NOT_ACCEPTABLE,
+    REFUSE_NO_RESOURCES, REFUSE_RETRANSMIT, REFUSE_SESSION_TERMINATING, REFUSE_UNKNOWN,
+    REJECT_TYPE_UNKNOWN, REJECT_UNEXPECTED, REJECT_UNSUPPORTED, SESS_TERM_REPLY, TERM_BUSY,
+    TERM_CONTACT_FAILURE, TERM_IDLE_TIMEOUT, TERM_RESOURCE_EXHAUSTION, TERM_UNKNOWN,
+    TERM_VERSION_MISMATCH,
+};
 pub use fault::{Code, Fault};
 pub use order::{Order, Taken, Turn};
 pub use recording::{
@@ -50,4 +60,4 @@ pub use tools::{
     blocks, check, list, pack, pack_more, unpack, BlocksOptions, CheckOptions, MoreOptions,
     PackOptions, Run, ToolError, UnpackOptions,
 };
-pub use writing::{write_contact, write_item, write_message, OutOfRange};
+pub use writing::{write_contact, write_item, write_message, write_total, OutOfRange};

@@ -4,7 +4,7 @@ use crate::fault::{Code, Fault};
 use crate::raw;
 use crate::recording::Message;
 
-/// The messages of a session so far, as far as they decide which may come next.
+/// Which messages of one side of a session have come so far. It judges the next one of this side.
 ///
 /// A node may also judge what it is about to send. Of such a message, the order looks only at the
 /// kind, the flags and the transfer, and a fault has its `offset`.

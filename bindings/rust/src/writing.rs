@@ -1,5 +1,6 @@
 //! Contact headers, extension items and messages, written as the readers read them.
 
+use crate::codes::ITEM_TYPE_TRANSFER_LENGTH;
 use crate::raw;
 use crate::recording::{Contact, Fields, Item};
 use std::fmt;
@@ -61,11 +62,11 @@ pub fn write_contact(contact: Contact, bytes: &mut Vec<u8>) {
 /// 64 items, of at most 65,536 bytes in all, are one.
 ///
 /// ```
-/// use tcpclkit::{write_item, Announced, Item, Items};
+/// use tcpclkit::{write_item, Item, Items, ITEM_CRITICAL};
 /// let mut list = vec![];
-/// let value = &34_u64.to_be_bytes(); // the length of the transfer (section 5.2.5.1)
-/// write_item(&Item { flags: 0, kind: 1, value, total: None }, &mut list)?;
-/// assert_eq!(Items::of_segment(&list)?.announced(), Announced::Total(34));
+/// let item = Item { flags: ITEM_CRITICAL, kind: 0x8000, value: b"hello", total: None };
+/// write_item(&item, &mut list)?;
+/// assert_eq!(Items::of_session(&list)?.next(), Some(item));
 /// # Ok::<(), Box<dyn std::error::Error>>(())
 /// ```
 ///
@@ -87,6 +88,27 @@ pub fn write_item(item: &Item<'_>, bytes: &mut Vec<u8>) -> Result<(), OutOfRange
             )
         }
     })
+}
+
+/// Appends a Transfer Length item (RFC 9174 section 5.2.5.1), which announces the length of a
+/// transfer in the items of its first segment.
+///
+/// ```
+/// use tcpclkit::{write_total, Announced, Items};
+/// let mut list = vec![];
+/// write_total(0, 34, &mut list);
+/// assert_eq!(Items::of_segment(&list)?.announced(), Announced::Total(34));
+/// # Ok::<(), Box<dyn std::error::Error>>(())
+/// ```
+pub fn write_total(flags: u8, total: u64, bytes: &mut Vec<u8>) {
+    let (kind, value) = (ITEM_TYPE_TRANSFER_LENGTH, &total.to_be_bytes());
+    let item = Item {
+        flags,
+        kind,
+        value,
+        total: None,
+    };
+    write_item(&item, bytes).expect("a value of 8 bytes is in range");
 }
 
 /// Appends a message (RFC 9174 sections 4.6, 5.1, 5.2 and 6.1), and of a segment the data that is

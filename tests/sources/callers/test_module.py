@@ -440,8 +440,13 @@ class WrittenMessages(unittest.TestCase):
         exec(shown_in(tcpclkit.write_message), names)
         self.assertEqual(taken_of(names["content"]), names["ack"]._replace(head_end=18))
         exec(shown_in(tcpclkit.write_item), names)
-        segment = tcpclkit.write_message(START._replace(items=[names["total"]]))
+        self.assertEqual(names["content"], b"\1\x80\0\0\5hello")
+        exec(shown_in(tcpclkit.total_item), names)
+        segment = tcpclkit.write_message(START._replace(items=names["items"]))
         self.assertEqual(taken_of(segment + bytes(5)).announced, Announced(34))
+        self.assertEqual(list(taken_of(segment + bytes(5)).items), names["items"])
+        with self.assertRaisesRegex(ValueError, f"^total is {2**64}, "):
+            tcpclkit.total_item(2**64)
 
     def test_data(self):
         head = tcpclkit.write_message(START)
