@@ -186,7 +186,7 @@ static size_t make_data(struct source *it, uint64_t block_type, uint8_t *data, c
 
 /* The check value of a block that was appended from an offset on, fed in pieces. */
 static void append_check(struct source *it, uint64_t kind, size_t offset) {
-  struct tcpclkit_check fed, copy;
+  struct tcpclkit_crc fed, copy;
   size_t at = offset, piece, size = 1 + draw_below(it, 300) + (streamed - offset) / 64;
   uint32_t status = tcpclkit_start_check(&fed, kind);
   CHECK(status == (kind == 0 ? TCPCLKIT_RANGE : TCPCLKIT_OK));
@@ -340,7 +340,7 @@ static void ask_rewritten_block(const uint8_t *bytes, const struct tcpclkit_bloc
                                 size_t room) {
   const size_t head = it->data_offset - it->offset, end = it->data_offset + it->data_length;
   const size_t field = it->offset + it->length - end;
-  struct tcpclkit_check fed;
+  struct tcpclkit_crc fed;
   uint32_t status;
   WRITE(status, room % 60, tcpclkit_write_block_head(it, INTO));
   CHECK(status == TCPCLKIT_OK && into.written.count <= head);

@@ -1237,7 +1237,7 @@ static inline uint32_t tcpclkit_write_block_head(const struct tcpclkit_block *bl
 }
 
 /* A check value of bytes that come in pieces of any size. It may be copied at any time. */
-struct tcpclkit_check {
+struct tcpclkit_crc {
   uint64_t kind;  /* TCPCLKIT_CHECK_CRC16 or TCPCLKIT_CHECK_CRC32 */
   uint64_t state; /* what the library keeps of the bytes */
 };
@@ -1250,8 +1250,8 @@ struct tcpclkit_check {
  *
  * Proved of tcpclkit_raw_start_check: no byte was fed to the check (`IsKeptCheckAt`).
  */
-uint32_t tcpclkit_raw_start_check(struct tcpclkit_check *check, uint64_t kind);
-static inline uint32_t tcpclkit_start_check(struct tcpclkit_check *check, uint64_t kind) {
+uint32_t tcpclkit_raw_start_check(struct tcpclkit_crc *check, uint64_t kind);
+static inline uint32_t tcpclkit_start_check(struct tcpclkit_crc *check, uint64_t kind) {
   if (check == NULL) return TCPCLKIT_NULL;
   return tcpclkit_raw_start_check(check, kind);
 }
@@ -1264,9 +1264,9 @@ static inline uint32_t tcpclkit_start_check(struct tcpclkit_check *check, uint64
  * Proved of tcpclkit_raw_feed_check: if some bytes were fed to the check, these and the piece then
  * were (`IsKeptCheckAt`).
  */
-uint32_t tcpclkit_raw_feed_check(struct tcpclkit_check *check, const uint8_t *piece,
+uint32_t tcpclkit_raw_feed_check(struct tcpclkit_crc *check, const uint8_t *piece,
                                  size_t length);
-static inline uint32_t tcpclkit_feed_check(struct tcpclkit_check *check, const uint8_t *piece,
+static inline uint32_t tcpclkit_feed_check(struct tcpclkit_crc *check, const uint8_t *piece,
                                            size_t length) {
   const struct tcpclkit_lent lent[] = {{check, sizeof *check}, {piece, length}};
   uint32_t status = tcpclkit_lent_status(lent, 2, 1);
@@ -1282,8 +1282,8 @@ static inline uint32_t tcpclkit_feed_check(struct tcpclkit_check *check, const u
  *
  * Proved of tcpclkit_raw_end_check: the value is `crc` of the bytes that were fed.
  */
-uint32_t tcpclkit_raw_end_check(const struct tcpclkit_check *check, uint64_t *value);
-static inline uint32_t tcpclkit_end_check(const struct tcpclkit_check *check, uint64_t *value) {
+uint32_t tcpclkit_raw_end_check(const struct tcpclkit_crc *check, uint64_t *value);
+static inline uint32_t tcpclkit_end_check(const struct tcpclkit_crc *check, uint64_t *value) {
   const struct tcpclkit_lent lent[] = {{value, sizeof *value}, {check, sizeof *check}};
   uint32_t status = tcpclkit_lent_status(lent, 2, 1);
   if (status == TCPCLKIT_OK) return tcpclkit_raw_end_check(check, value);
@@ -1300,9 +1300,9 @@ static inline uint32_t tcpclkit_end_check(const struct tcpclkit_check *check, ui
  * Proved of tcpclkit_raw_write_check: the bytes are `check_field` of the bytes that were fed, and
  * those after them stay.
  */
-uint32_t tcpclkit_raw_write_check(const struct tcpclkit_check *check, uint8_t *bytes, size_t room,
+uint32_t tcpclkit_raw_write_check(const struct tcpclkit_crc *check, uint8_t *bytes, size_t room,
                                   struct tcpclkit_written *written);
-static inline uint32_t tcpclkit_write_check(const struct tcpclkit_check *check, uint8_t *bytes,
+static inline uint32_t tcpclkit_write_check(const struct tcpclkit_crc *check, uint8_t *bytes,
                                             size_t room, struct tcpclkit_written *written) {
   const struct tcpclkit_lent lent[] = {
       {bytes, room}, {written, sizeof *written}, {check, sizeof *check}};

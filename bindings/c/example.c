@@ -246,7 +246,7 @@ static int make_bundle(const uint8_t *payload, size_t length, FILE *output) {
   struct tcpclkit_bundle bundle = {0};
   struct tcpclkit_block block = {0};
   struct tcpclkit_written first, second, third;
-  struct tcpclkit_check check;
+  struct tcpclkit_crc check;
   bundle.time = 800000000000;
   bundle.sequence = 1;
   bundle.lifetime = 60000;

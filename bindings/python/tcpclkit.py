@@ -166,7 +166,7 @@ _Order = _struct("_Order", "initiated terminated is_open transfer")
 _Turn = _struct("_Turn", "fault turn last abandons abandoned")
 _Sent = _struct("_Sent", "id length whole acknowledged fault")
 _Written = _struct("_Written", "count needed")
-_Check = _struct("_Check", "kind state")
+_Crc = _struct("_Crc", "kind state")
 _Run = _struct("_Run", "exit_status output_length report_length")
 
 _SLICE = [c_void_p, c_size_t]
@@ -197,10 +197,10 @@ _PARAMETERS = {
     "write_message": [POINTER(_Message), *_SLICE, *_SLICE, *_WRITTEN],
     "write_primary": [POINTER(_Bundle), c_uint64, *_NAMES, *_WRITTEN],
     "write_block_head": [POINTER(_Block), *_WRITTEN],
-    "start_check": [POINTER(_Check), c_uint64],
-    "feed_check": [POINTER(_Check), *_SLICE],
-    "end_check": [POINTER(_Check), POINTER(c_uint64)],
-    "write_check": [POINTER(_Check), *_WRITTEN],
+    "start_check": [POINTER(_Crc), c_uint64],
+    "feed_check": [POINTER(_Crc), *_SLICE],
+    "end_check": [POINTER(_Crc), POINTER(c_uint64)],
+    "write_check": [POINTER(_Crc), *_WRITTEN],
     "write_eid": [POINTER(_Eid), *_SLICE, *_WRITTEN],
     "write_age": [c_uint64, *_WRITTEN],
     "write_hop_count": [c_uint64, c_uint64, *_WRITTEN],
@@ -834,7 +834,7 @@ class Check(_State):
     """
 
     def __init__(self, kind=0):
-        super().__init__(_Check())
+        super().__init__(_Crc())
         self._call("start_check", _number("check", kind, most=2))
 
     def feed(self, piece):

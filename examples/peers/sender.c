@@ -34,7 +34,7 @@ static void add_block(uint64_t type, uint64_t number, const uint8_t *data, size_
   const struct tcpclkit_block block = {.kind = TCPCLKIT_BLOCK_CANONICAL, .block_type = type,
       .number = number, .check = TCPCLKIT_CHECK_CRC32, .data_length = length};
   uint8_t *const start = bundle + bundle_length, *at = start;
-  struct tcpclkit_check check;
+  struct tcpclkit_crc check;
   struct tcpclkit_written written;
   MUST(tcpclkit_write_block_head(&block, at, TCPCLKIT_BLOCK_HEAD_ROOM, &written));
   at += written.count;

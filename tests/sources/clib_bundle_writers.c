@@ -98,7 +98,7 @@ static void eids(void) {
 static void check_values(void) {
   static const uint64_t values[] = {0x906e, 0xe3069283};
   static const uint8_t *digits = (const uint8_t *)"123456789";
-  struct tcpclkit_check check, copy;
+  struct tcpclkit_crc check, copy;
   uint64_t kind, value;
   size_t size, at;
   for (kind = TCPCLKIT_CHECK_CRC16; kind <= TCPCLKIT_CHECK_CRC32; kind++)
@@ -214,7 +214,7 @@ static uint32_t write_primary_of(size_t row, const struct tcpclkit_bundle *it) {
 static size_t is_block(const struct tcpclkit_block *block, const uint8_t *data, size_t size,
                        const uint8_t *bytes) {
   const size_t length = (size_t)block->data_length;
-  struct tcpclkit_check check;
+  struct tcpclkit_crc check;
   size_t head, at, field;
   /* the head of the array, four numbers, and the head of the data */
   head = 5 + (block->block_type > 23) + (length > 23 ? 2u : 1u) + (length > 255) +
@@ -297,7 +297,7 @@ static void long_payload(void) {
   static const char *head = "86010100025a00011170", *field = "44aa58b41a";
   static uint8_t payload[70000];
   const struct tcpclkit_block block = {2, 0, 0, 1, 1, 0, 2, 0, sizeof payload, 0};
-  struct tcpclkit_check check;
+  struct tcpclkit_crc check;
   uint8_t wanted[10];
   size_t size, at;
   memset(payload, 0xa5, sizeof payload);
@@ -326,7 +326,7 @@ static void longest_primary(void) {
   static uint8_t name[TCPCLKIT_EID_LIMIT], wanted[TCPCLKIT_PRIMARY_ROOM];
   const struct tcpclkit_eid eid = DTN(TCPCLKIT_EID_LIMIT);
   struct tcpclkit_bundle it;
-  struct tcpclkit_check check;
+  struct tcpclkit_crc check;
   uint64_t value = 0;
   uint8_t *at = wanted;
   size_t which;
@@ -378,7 +378,7 @@ void call_bundle_writers(void) {
   static uint8_t name[TCPCLKIT_EID_LIMIT], bytes[TCPCLKIT_PRIMARY_ROOM];
   static struct tcpclkit_eid eid = DTN(TCPCLKIT_EID_LIMIT);
   static struct tcpclkit_bundle it;
-  static struct tcpclkit_check check;
+  static struct tcpclkit_crc check;
   static struct tcpclkit_written written;
   static uint64_t value;
   it.destination = it.source = it.report_to = eid;

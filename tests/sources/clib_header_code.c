@@ -249,7 +249,7 @@ static void acknowledgments(void) {
 
 static void write_shown(const struct tcpclkit_block block) {
   struct tcpclkit_written written;
-  struct tcpclkit_check check;
+  struct tcpclkit_crc check;
   uint8_t bytes[TCPCLKIT_BLOCK_HEAD_ROOM], piece[sizeof several];
   size_t length;
   use_none();

@@ -38,7 +38,7 @@ static struct tcpclkit_pack_options pack_options;
 static struct tcpclkit_more_options more_options;
 static struct tcpclkit_message ack, init;
 static struct tcpclkit_bundle fields;
-static struct tcpclkit_check begun;
+static struct tcpclkit_crc begun;
 static const struct tcpclkit_sent sent = {7, 0, 0, 0, 0};
 static const struct tcpclkit_eid eid = {TCPCLKIT_EID_DTN, 0, 0, 0, 4};
 static const struct tcpclkit_block primary = {1, 1, 21, 0, 0, 4, 0, 0, 0, 0};

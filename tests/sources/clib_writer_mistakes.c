@@ -63,7 +63,7 @@ CALL(hop_count) {
 static struct tcpclkit_message init;
 static struct tcpclkit_bundle fields;
 static const struct tcpclkit_block age_block = {2, 0, 0, 7, 2, 0, 1, 0, 1, 0};
-static struct tcpclkit_check begun;
+static struct tcpclkit_crc begun;
 static const struct tcpclkit_eid no_eid = {TCPCLKIT_EID_DTN_NONE, 0, 0, 0, 0};
 static const uint8_t some[5] = {0, 0, 1, 0, 0};
 
@@ -129,7 +129,7 @@ static void writers_and_null(void) {
 static void others_and_null(void) {
   const struct tcpclkit_message ack = message_of(TCPCLKIT_XFER_ACK, 0, 7);
   struct tcpclkit_sent sent;
-  struct tcpclkit_check check;
+  struct tcpclkit_crc check;
   struct tcpclkit_eid found;
   uint8_t text[30];
   const uint8_t *none = (const uint8_t *)"dtn:none";
@@ -377,11 +377,11 @@ static void wrong_blocks(void) {
 
 /* Memory that is no check: each call refuses it, and leaves it as it is. */
 static void wrong_checks(void) {
-  static const struct tcpclkit_check wrong[] = {
+  static const struct tcpclkit_crc wrong[] = {
       {0, 0}, {3, 0}, {257, 0}, {UINT64_MAX, 0}, {1, 0x10000}, {1, UINT64_MAX},
       {2, 0x100000000}, {2, UINT64_MAX}};
   static const uint64_t kinds[] = {0, 3, 257, 0x100000001, UINT64_MAX};
-  struct tcpclkit_check it;
+  struct tcpclkit_crc it;
   uint64_t value;
   size_t row;
   for (row = 0; row < sizeof wrong / sizeof *wrong; row++) {

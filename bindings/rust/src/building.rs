@@ -178,13 +178,13 @@ pub fn write_block_head(head: &BlockHead, bytes: &mut Vec<u8>) -> Result<(), Out
 /// assert_eq!(check.value(), Some(0xe306_9283));
 /// ```
 #[derive(Clone, Copy, Debug, PartialEq, Eq)]
-pub struct Check(Option<raw::Check>);
+pub struct Check(Option<raw::Crc>);
 
 impl Check {
     /// A check to which no byte was fed. One of [`CheckType::None`] has no value and an empty
     /// field.
     pub fn new(kind: CheckType) -> Check {
-        let (status, check) = raw::answer(|check: &mut raw::Check| {
+        let (status, check) = raw::answer(|check: &mut raw::Crc| {
             // SAFETY: the struct is valid.
             unsafe { raw::tcpclkit_raw_start_check(check, kind.number()) }
         });

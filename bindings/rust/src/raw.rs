@@ -91,7 +91,7 @@ structs! {
     Turn { fault: u64, turn: u64, last: u64, abandons: u64, abandoned: u64 }
     Sent { id: u64, length: u64, whole: u64, acknowledged: u64, fault: u64 }
     Written { count: u64, needed: u64 }
-    Check { kind: u64, state: u64 }
+    Crc { kind: u64, state: u64 }
     Run { exit_status: u64, output_length: u64, report_length: u64 }
 }
 
@@ -216,11 +216,11 @@ extern "C" {
         room: usize,
         written: *mut Written,
     ) -> u32;
-    pub fn tcpclkit_raw_start_check(check: *mut Check, kind: u64) -> u32;
-    pub fn tcpclkit_raw_feed_check(check: *mut Check, piece: *const u8, length: usize) -> u32;
-    pub fn tcpclkit_raw_end_check(check: *const Check, value: *mut u64) -> u32;
+    pub fn tcpclkit_raw_start_check(check: *mut Crc, kind: u64) -> u32;
+    pub fn tcpclkit_raw_feed_check(check: *mut Crc, piece: *const u8, length: usize) -> u32;
+    pub fn tcpclkit_raw_end_check(check: *const Crc, value: *mut u64) -> u32;
     pub fn tcpclkit_raw_write_check(
-        check: *const Check,
+        check: *const Crc,
         bytes: *mut u8,
         room: usize,
         written: *mut Written,

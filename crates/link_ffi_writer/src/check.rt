@@ -8,7 +8,7 @@ ghost use Rattle.link_ffi_writer.specs.Checks.{kind_by, kind_of, IsKeptCheckAt};
 use link_bundle_writer::{Check, CheckKind, write_check};
 use link_writing::WriteFault;
 
-/// `struct tcpclkit_check`: the type of a check, and its register.
+/// `struct tcpclkit_crc`: the type of a check, and its register.
 #[repr(C)]
 #[derive(Clone, Copy, Debug, PartialEq, Eq)]
 pub struct KeptCheck {

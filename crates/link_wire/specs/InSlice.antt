@@ -1,5 +1,5 @@
--- Relations, but for ItemLies, MessageLies: what is read of a list of bytes at an offset, and where it
--- lies.
+-- Relations, but for ItemLies, MessageLies: what is read of a list of bytes at an offset, and where
+-- it lies.
 use Rattle.std.specs.Prelude.{◌≡◌, ℕ, ◌+◌, ◌≤◌, true, false, List, [], length, take, drop, Result, Ok, Err}
 use Rattle.arrayvec.specs.ArrayVec.{ArrayVec}
 use Rattle.link_wire.specs.Codes.{is_start}

@@ -634,7 +634,7 @@ static int rewrite(const struct job *job) {
 
 /* Writes a canonical block. Its bytes are fed to the check in pieces. */
 static void write_block(const struct tcpclkit_block *block, const uint8_t *data) {
-  struct tcpclkit_check check;
+  struct tcpclkit_crc check;
   size_t piece, at = output.length;
   WRITE(&output, tcpclkit_write_block_head(block, slice, room, &written));
   put_bytes(&output, data, (size_t)block->data_length);
