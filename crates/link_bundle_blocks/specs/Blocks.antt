@@ -47,10 +47,12 @@ viewed_primary view =
       fragment = view.fragment;
     }
 
+-- the block that a view shows
 abbrev pub viewed_block : BlockView → Block
 viewed_block (view.Primary block) = PrimaryOf (viewed_primary block) block.check block.end
 viewed_block (view.Canonical block) = CanonicalOf block
 
+-- the block that a view shows, as a list; no block without a view
 abbrev pub viewed_blocks : Option BlockView → List Block
 viewed_blocks None = []
 viewed_blocks (Some view) = viewed_block view ∷ []
@@ -66,8 +68,9 @@ abbrev pub IsShortBlock : Block → Type 0
 IsShortBlock (PrimaryOf primary check end) = HasShortEids primary
 IsShortBlock (CanonicalOf block) = Unit {0}
 
--- The canonical block that comes next: the first of these, or if there are none, `cut`, the block
--- that the bytes cut short. The result is `None` if the primary block comes next.
+-- The canonical block that comes next: the first of the blocks, without its end. If there are none,
+-- it is `cut`, the block that the bytes cut short. The result is `None` if the primary block is
+-- next.
 abbrev pub next_of : List Block → Option CanonicalBlock → Option CanonicalBlock
 next_of [] cut = cut
 next_of (PrimaryOf primary check end ∷ rest) cut = None

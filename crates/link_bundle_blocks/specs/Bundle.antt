@@ -23,7 +23,7 @@ pub record Bundle : Type 0 where
   pub payload_span : ℕ × ℕ
   pub blocks : List Block
 
--- the same result, where a stop also has the offset and the length of the payload
+-- the same result; a stop also gets `payload`, the offset and the length of the payload
 abbrev pub with_payload : {A : Type 0} → ℕ × ℕ → Result A Stop → Result A Stop
 with_payload payload (Ok value) = Ok value
 with_payload payload (Err stop) = Err (record stop { payload_span = Some payload })
@@ -33,11 +33,12 @@ abbrev pub with_blocks : List Block → Result Bundle Stop → Result Bundle Sto
 with_blocks blocks (Ok bundle) = Ok (record bundle { blocks = blocks ++ bundle.blocks })
 with_blocks blocks (Err stop) = Err (record stop { blocks = blocks ++ stop.blocks })
 
--- the block in which a reading stops, if it stops because the bytes end; `None` at another fault
+-- the block, if the reading stopped in it because the bytes end; `None` at any other fault
 abbrev pub cut_in : BundleFault → CanonicalBlock → Option CanonicalBlock
 cut_in fault block = if lasts fault then None else Some block
 
--- the same reading of a block's data and check field, where a stop also has the block if it is cut
+-- The same reading of the block's data and check field. A stop also gets the block, if it stopped
+-- because the bytes end.
 abbrev pub inside : CanonicalBlock → ReadAt Bool → ReadAt Bool
 inside block (Ok read) = Ok read
 inside block (Err stop) = Err (record stop { cut_block = cut_in stop.fault block })
@@ -58,12 +59,13 @@ info_of primary blocks size =
       payload = size;
     }
 
--- the data of a canonical block and its check field; the value `true` has no meaning
+-- the offset after the data of a canonical block and its check field; the value is always `true`
 abbrev pub rest_of : CanonicalBlock → List ℕ → ReadAt Bool
 rest_of block bytes =
     inside block (content_at block.data_length block.check block.start bytes block.data_start)
 
--- the bundle, read from the data of its last block on: the payload block, one of `blocks` blocks
+-- The rest of a bundle, read from the data of its last block on: `block`, the payload block. The
+-- bundle has `blocks` canonical blocks.
 unfoldable pub payload_at : Primary → ℕ → CanonicalBlock → List ℕ → Result Bundle Stop
 payload_at primary blocks block bytes = with_payload (block.data_start, block.data_length) do
   (_, end) ← rest_of block bytes
@@ -80,6 +82,7 @@ payload_at primary blocks block bytes = with_payload (block.data_start, block.da
 -- `left` more blocks may come, and `numbers` are the numbers of the blocks before.
 unfoldable pub blocks_at : ℕ → List ℕ → Primary → List ℕ → ℕ → Result Bundle Stop
 blocks_at zero numbers primary bytes start = do
+  -- this is always a fault, so the next line is only there for its type
   (_, offset) ← row_at block_too_many bytes start
   cut_short bytes
 blocks_at (suc left) numbers primary bytes start = do
@@ -89,7 +92,7 @@ blocks_at (suc left) numbers primary bytes start = do
     with_blocks (CanonicalOf (ended block end) ∷ [])
         (blocks_at left (numbers ++ block.number ∷ []) primary bytes end)
 
--- the first byte, which opens an array of indefinite length; the value `true` has no meaning
+-- the first byte, which opens an array of indefinite length; the value is always `true`
 unfoldable pub opening_at : List ℕ → ReadAt Bool
 opening_at [] = cut_short []
 opening_at (first ∷ rest) = if first == 0x9f then Ok (true, 1) else Err (stopped NotABundle 0)
@@ -120,7 +123,7 @@ judged_bundle bytes = do
   bundle ← bundle_at bytes
   if_alone bytes bundle
 
--- a verdict without the offset and the length of the payload
+-- the verdict alone: the fields of the bundle, or the fault and its offset
 abbrev pub verdict_by : Result Bundle Stop → Result BundleInfo (BundleFault × ℕ)
 verdict_by (Ok bundle) = Ok bundle.info
 verdict_by (Err stop) = Err (stop.fault, stop.offset)
@@ -129,6 +132,7 @@ verdict_by (Err stop) = Err (stop.fault, stop.offset)
 unfoldable pub verdict : List ℕ → Result BundleInfo (BundleFault × ℕ)
 verdict bytes = verdict_by (judged_bundle bytes)
 
+-- the whole blocks, also of a reading that stopped
 abbrev pub blocks_of : Result Bundle Stop → List Block
 blocks_of (Ok bundle) = bundle.blocks
 blocks_of (Err stop) = stop.blocks
@@ -137,6 +141,7 @@ blocks_of (Err stop) = stop.blocks
 unfoldable pub blocks_in : List ℕ → List Block
 blocks_in bytes = blocks_of (judged_bundle bytes)
 
+-- the block in which a reading stopped because the bytes end, if it did
 abbrev pub cut_block_of : Result Bundle Stop → Option CanonicalBlock
 cut_block_of (Ok bundle) = None
 cut_block_of (Err stop) = stop.cut_block
@@ -150,7 +155,7 @@ abbrev pub payload_of : Result Bundle Stop → Option (ℕ × ℕ)
 payload_of (Ok bundle) = Some bundle.payload_span
 payload_of (Err stop) = stop.payload_span
 
--- the bytes from the offset on, at most `size` of them
+-- the bytes from the offset on, at most `size` of them; none if the offset is not known
 abbrev pub bytes_of : Option (ℕ × ℕ) → List ℕ → List ℕ
 bytes_of None bytes = []
 bytes_of (Some (offset, size)) bytes = take size (drop offset bytes)
@@ -174,6 +179,7 @@ abbrev pub state_of : Result BundleInfo (BundleFault × ℕ) → State
 state_of (Ok info) = state.Ended
 state_of (Err (fault, offset)) = if lasts fault then state.Failed fault offset else state.Going
 
+-- whether a scan in this state needs more bytes
 abbrev pub is_going : State → Bool
 is_going state.Going = true
 is_going state.Ended = false

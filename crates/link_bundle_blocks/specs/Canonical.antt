@@ -32,7 +32,8 @@ heads_at numbers bytes start = do
     offset,
   )
 
--- the data of a canonical block that begins at `start`, and its check field; `true` has no meaning
+-- The data of a canonical block, `size` bytes from `offset` on, and its check field. The block
+-- begins at `start`. Only the offset after the two is of use: the value is always `true`.
 unfoldable pub content_at : ℕ → Option CheckKind → ℕ → List ℕ → ℕ → ReadAt Bool
 content_at size check start bytes offset = do
   (_, offset) ← bytes_at size bytes offset

@@ -18,7 +18,8 @@ check_of kind start content bytes =
     crc kind (slice_range bytes start content ++ replicate (check_width kind) 0)
 
 -- The check field at an offset, in a block that begins at `start` (section 4.2.2). A block without
--- a check has none. The value is always `true` and has no meaning: a wrong check is a fault.
+-- a check has none. Only the offset after the field is of use: the value is always `true`, since a
+-- wrong check is a fault.
 unfoldable pub field_at : Option CheckKind → ℕ → List ℕ → ℕ → ReadAt Bool
 field_at None start bytes offset = Ok (true, offset)
 field_at (Some kind) start bytes offset = do

@@ -7,7 +7,7 @@ use Rattle.link_bundle_heads.specs.declared.endpoint.{Scheme.Scheme, Scheme.TheV
 use Rattle.link_bundle_heads.specs.Rows.{◌>>=◌, unsigned, pair, scheme, dtn_part, ipn_part}
 use Rattle.link_bundle_blocks.specs.Reading.{ReadAt, row_at, bytes_at}
 
--- dtn:none, or a dtn name of that many bytes
+-- dtn:none (`None`), or a dtn name of that many bytes, which begins at the offset
 unfoldable pub dtn_at : Option ℕ → List ℕ → ℕ → ReadAt Eid
 dtn_at None bytes offset = Ok (DtnNone, offset)
 dtn_at (Some count) bytes offset = do
@@ -15,7 +15,8 @@ dtn_at (Some count) bytes offset = do
   Ok (DtnName (record { items = name }), offset)
 
 -- The numbers of an ipn endpoint ID. RFC 9171 has two, a node number and a service number. Three,
--- the first of them an allocator identifier, are the project's own rule (docs/RFCS.md).
+-- the first of them an allocator identifier, are the project's own rule (docs/RFCS.md). The `Bool`
+-- says whether there are three.
 unfoldable pub ipn_at : Bool → List ℕ → ℕ → ReadAt Eid
 ipn_at false bytes offset = do
   (node, offset) ← row_at unsigned bytes offset

@@ -20,7 +20,7 @@ abbrev pub reading_of : {A : Type 0} → Result (A × ℕ) PartFault → ReadAt 
 reading_of (Ok read) = Ok read
 reading_of (Err stop) = Err (stopped stop.fault stop.offset)
 
--- the result of an exact reader that returns only the offset after its part; `true` has no meaning
+-- the result of an exact reader that returns only the offset after its part, with the value `true`
 abbrev pub passed_of : Result ℕ PartFault → ReadAt Bool
 passed_of (Ok next) = Ok (true, next)
 passed_of (Err stop) = Err (stopped stop.fault stop.offset)

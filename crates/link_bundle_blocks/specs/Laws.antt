@@ -98,9 +98,11 @@ pub record IsTiled (bytes : List ℕ) (info : BundleInfo) : Type 0 where
   pub fields : info ≡ info_of primary (length (others ++ payload ∷ [])) payload.data_length
   pub payload_type : payload.block_type ≡ 1
   pub other_types : All (λ block. block.block_type ≢ 1) others
+  -- the offset of the last byte, the break
   pub last : ℕ
   pub tiles : AreBlocksBetween 1 (blocks_in bytes) last
   pub size : length bytes ≡ last + 1
 
+-- the blocks of a good bundle divide it, as `IsTiled` says
 abbrev pub GoodBlocksTile : Type 0
 GoodBlocksTile = (bytes : List ℕ) (info : BundleInfo) → verdict bytes ≡ Ok info → IsTiled bytes info

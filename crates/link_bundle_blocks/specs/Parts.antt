@@ -19,7 +19,8 @@ next_block_at numbers bytes start =
       cut_short bytes)
     else heads_at numbers bytes start
 
--- The check field at the start of `bytes`. `before` are the bytes of its block before it.
+-- The check field at the start of `bytes`. `before` are the bytes of its block before the field.
+-- The value is always `true`.
 unfoldable pub field_from : CheckKind → List ℕ → List ℕ → ReadAt Bool
 field_from kind before bytes = do
   (_, content) ← row_at (check_field kind) bytes 0

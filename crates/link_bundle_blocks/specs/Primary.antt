@@ -11,6 +11,7 @@ use Rattle.link_bundle_blocks.specs.EndpointId.{eid_at}
 
 -- ---- what is known of a block
 
+-- the fields of a primary block that were accepted; the others are 0 or `None`
 pub record PrimaryFields : Type 0 where
   -- The number of elements of the block's array that were accepted, in their order. These are the
   -- version, the flags, the check type, the destination, the source node, the report-to endpoint,
@@ -78,11 +79,11 @@ no_primary =
 
 -- ---- how a block is read
 
--- elements and the offset after them, or the fields before the stop and the stop
+-- some elements and the offset after them, or the stop and the fields of the block before it
 abbrev pub ElementsAt : Type 0 → Type 0
 ElementsAt A = Result (A × ℕ) (PrimaryFields × Stop)
 
--- the same reading of a part, where a stop also has the first `count` elements, which come before
+-- the same reading; a stop also gets the first `count` elements of the block, which come before it
 abbrev pub after : {A : Type 0} → ℕ → Primary → ReadAt A → ElementsAt A
 after count block (Ok read) = Ok read
 after count block (Err stop) = Err (first_elements count block, stop)
@@ -92,7 +93,8 @@ abbrev pub without_fields : {A : Type 0} → ElementsAt A → ReadAt A
 without_fields (Ok read) = Ok read
 without_fields (Err (fields, stop)) = Err stop
 
--- the fragment offset and the total length, if the bundle is a fragment
+-- The fragment offset and the total length, if the bundle is a fragment, as the `Bool` says.
+-- `block` has the elements before them.
 unfoldable pub fragment_elements : Bool → Primary → List ℕ → ℕ → ElementsAt (Option (ℕ × ℕ))
 fragment_elements false block bytes offset = Ok (None, offset)
 fragment_elements true block bytes offset = do
@@ -131,9 +133,11 @@ primary_elements bytes offset = do
 
 -- ---- the same without the fields before a stop
 
+-- the same without the fields before the stop
 unfoldable pub fragment_at : Bool → List ℕ → ℕ → ReadAt (Option (ℕ × ℕ))
 fragment_at is_fragment bytes offset =
     without_fields (fragment_elements is_fragment no_primary bytes offset)
 
+-- the primary block up to its check field, and its check type
 unfoldable pub primary_at : List ℕ → ℕ → ReadAt (Primary × Option CheckKind)
 primary_at bytes offset = without_fields (primary_elements bytes offset)

@@ -5,6 +5,7 @@ use Rattle.link_bundle_types.specs.EidView.{viewed_eid}
 use Rattle.link_bundle_blocks.specs.declared.primary_view.PrimaryView.{PrimaryView}
 use Rattle.link_bundle_blocks.specs.Primary.{PrimaryFields}
 
+-- the fields that a view shows
 abbrev pub viewed_fields : PrimaryView → PrimaryFields
 viewed_fields view =
     record {

@@ -34,7 +34,7 @@ ReadAt A = Result (A × ℕ) Stop
 abbrev pub cut_short : {A : Type 0} → List ℕ → Result A Stop
 cut_short bytes = Err (stopped Cut (length bytes))
 
--- the head at an offset, if the bytes from there on begin with this, or the stop
+-- the head at an offset, or the stop; the bytes from the offset on begin with this
 abbrev pub head_by : List ℕ → ℕ → HeadFront → ReadAt Head
 head_by bytes offset CutHead = cut_short bytes
 head_by bytes offset IllFormed = Err (stopped BadHead offset)
@@ -44,7 +44,8 @@ head_by bytes offset (Whole head size) = Ok (head, offset + size)
 unfoldable pub head_at : List ℕ → ℕ → ReadAt Head
 head_at bytes offset = head_by bytes offset (head_front (drop offset bytes))
 
--- the value of a head with the offset after the head, or its fault with the offset of the head
+-- A judged head as a part: its value and `next`, the offset after the head, or its fault at
+-- `offset`, where the head begins.
 abbrev pub outcome_at : {A : Type 0} → ℕ → ℕ → Result A BundleFault → ReadAt A
 outcome_at offset next (Ok value) = Ok (value, next)
 outcome_at offset next (Err fault) = Err (stopped fault offset)

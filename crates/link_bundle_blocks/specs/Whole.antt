@@ -26,12 +26,13 @@ whole_canonical numbers bytes start = do
   (_, next) ← content_at block.data_length block.check block.start bytes block.data_start
   Ok (block, next)
 
--- a block with `count` added to both offsets: as it is after `count` more bytes
+-- A block whose two offsets are counted from `count` bytes earlier. Its `end` stays as it is.
 abbrev pub moved : ℕ → CanonicalBlock → CanonicalBlock
 moved count block =
     record block { start = count + block.start; data_start = count + block.data_start }
 
--- a bundle of `count` canonical blocks that ends before `end`; `span` is where its payload lies
+-- A bundle of `count` canonical blocks that ends before `end`. `span` is the offset and the length
+-- of its payload.
 abbrev pub bundle_with : Primary → ℕ → ℕ × ℕ → ℕ → List Block → Bundle
 bundle_with primary count span end blocks =
     record {

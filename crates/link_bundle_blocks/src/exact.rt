@@ -65,7 +65,8 @@ pub(crate) fn head_at(bytes: &[u8], offset: usize) -> Result<(Head, usize), Part
     }
 }
 
-/// The value of the head at `offset` with the offset after it, `next`, or the fault at `offset`.
+/// Makes a part of a judged head, which begins at `offset` and ends before `next`: its value and
+/// `next`, or its fault at `offset`.
 #[inline(always)]
 pub(crate) fn outcome_at<T>(
     offset: usize,
@@ -90,7 +91,7 @@ pub(crate) fn unsigned_at(bytes: &[u8], offset: usize) -> Result<(u64, usize), P
     outcome_at(offset, next, row::unsigned(head))
 }
 
-/// Reads the head of an array of two elements.
+/// Reads the head of an array of two elements, and returns 2.
 #[inline(always)]
 pub(crate) fn pair_at(bytes: &[u8], offset: usize) -> Result<(u64, usize), PartFault>
     ensures { reading_of result ≡ row_at row.pair bytes.now offset }
@@ -99,7 +100,8 @@ pub(crate) fn pair_at(bytes: &[u8], offset: usize) -> Result<(u64, usize), PartF
     outcome_at(offset, next, row::pair(head))
 }
 
-/// Reads the head of the check field of a block that has a check of this kind.
+/// Reads the head of the check field of a block that has a check of this kind, and returns the
+/// length of the field's content in bytes.
 pub(crate) fn check_head_at(
     kind: CheckKind,
     bytes: &[u8],

@@ -20,7 +20,8 @@ const BREAK: u8 = 0xff;
 /// The greatest length of a head in bytes (RFC 8949 section 3).
 const LONGEST: usize = 9;
 
-/// The additional information of the head at an offset, or at least 32 for another major type.
+/// The additional information of the head at an offset, which is below 32. The result is at least
+/// 32 if the head has another major type, and an error if the bytes end before the offset.
 #[inline(always)]
 fn information_at(major: u8, bytes: &[u8], offset: usize) -> Result<u8, BundleFault>
     requires { major < 8 }
@@ -48,7 +49,8 @@ pub fn small_at(major: u8, bytes: &[u8], offset: usize) -> Result<(Head, usize),
     Ok((Head { major, value }, offset + 1))
 }
 
-/// The length of the argument after a first byte with this additional information.
+/// The length of the argument after a first byte with this additional information. There is none
+/// below 24, nor from 28 on.
 #[inline(always)]
 fn argument_size(information: u8) -> Result<usize, BundleFault>
     ensures least { IfOk result (λ _. 24 ≤ information) }
@@ -67,8 +69,9 @@ fn argument_size(information: u8) -> Result<usize, BundleFault>
 
 /// Reads the head of an item that has this major type and a value.
 ///
-/// A longer head is read from nine bytes, whatever its length. A bundle hardly ever ends so soon
-/// after one: its payload block and a break come last.
+/// A head of more than one byte is read from nine bytes, whatever its length. If there are fewer,
+/// the result is an error. A bundle hardly ever ends so soon after such a head: its payload block
+/// and a break come last.
 #[inline(always)]
 pub fn item_at(major: u8, bytes: &[u8], offset: usize) -> Result<(Head, usize), BundleFault>
     requires { major < 7 }

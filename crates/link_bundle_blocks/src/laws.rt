@@ -48,7 +48,8 @@ pub fn good_blocks_tile()
     ensures { GoodBlocksTile }
 {}
 
-/// The fields of a primary block depend on the first 3,257 bytes of the bundle alone.
+/// The fields of a primary block depend on the first 3,257 bytes of the bundle alone. This is
+/// [`PRIMARY_LIMIT`](crate::PRIMARY_LIMIT).
 pub fn primary_is_short()
     ensures { (bytes : List ℕ) → primary_fields (take 3257 bytes) ≡ primary_fields bytes }
 {}

@@ -34,6 +34,7 @@ const DTN_NONE: u32 = 0x82_01_00;
 /// Reads an endpoint ID (RFC 9171 section 4.2.5.1).
 ///
 /// Nearly all are ipn endpoint IDs of two numbers, or `dtn:none`. Their first three bytes say so.
+/// They are loaded with the byte after them, so fewer than four bytes are an error.
 #[inline(always)]
 pub fn eid_at(bytes: &[u8], offset: usize) -> Result<(EidView<'_>, usize), BundleFault>
     ensures read { IfOk result (λ read. eid_at bytes.now offset ≡ Ok (viewed_eid read.0, read.1)) }
@@ -160,8 +161,8 @@ pub(crate) fn padded_check_of(kind: CheckKind, mut check: Check, rest: &[u8]) ->
 
 /// Reads the check field of a block, if it has one (RFC 9171 section 4.2.2).
 ///
-/// The block begins at `start`. Returns the offset after the field. The `true` of the contract has
-/// no meaning: the definition of `field_at` has no other value.
+/// The block begins at `start`. Returns the offset after the field, or `offset` itself if the block
+/// has no check. The definition of `field_at` adds a value, which is always `true`.
 #[inline(always)]
 #[tactic(auto, unfolding(crate::specs::CheckField::field_at))]
 pub fn field_at(
@@ -180,8 +181,8 @@ pub fn field_at(
 
 /// Reads the check field of a block that has a check of this kind.
 ///
-/// The block begins at `start`. Returns the offset after the field. The `true` of the contract has
-/// no meaning: the definition of `field_at` has no other value.
+/// The block begins at `start`. Returns the offset after the field. The definition of `field_at`
+/// adds a value, which is always `true`.
 #[inline(always)]
 fn stored_at(
     kind: CheckKind,
@@ -200,10 +201,11 @@ fn stored_at(
     Ok(next)
 }
 
-/// Reads the data of a canonical block and its check field.
+/// Reads the data of a canonical block, `size` bytes from `offset` on, and the check field after
+/// it.
 ///
-/// The block begins at `start`. Returns the offset after the field. The `true` of the contract has
-/// no meaning: the definition of `content_at` has no other value.
+/// The block begins at `start`: its check value covers it from there on. Returns the offset after
+/// the block. The definition of `content_at` adds a value, which is always `true`.
 #[inline(always)]
 #[tactic(auto, unfolding(crate::specs::Canonical::content_at))]
 fn content_at(
@@ -284,8 +286,9 @@ pub fn whole_canonical(
 
 /// Reads the canonical blocks, and the break after the payload block.
 ///
-/// Returns the offset and the length of the payload, and the offset after the break. The result
-/// does not depend on the primary block.
+/// `numbers` is empty before the call, and then has the numbers of the blocks. Returns the offset
+/// and the length of the payload, and the offset after the break. The result does not depend on the
+/// primary block.
 #[inline(always)]
 pub fn blocks_at(
     numbers: &mut BlockNumbers,

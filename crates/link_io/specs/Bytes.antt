@@ -1,6 +1,7 @@
 -- Lists of bytes.
 use Rattle.std.specs.{Prelude.{ℕ, ◌<◌, List}, List.All}
 
+-- a number from 0 to 255
 abbrev pub IsByte : ℕ → Type 0
 IsByte byte = byte < 256
 

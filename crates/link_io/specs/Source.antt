@@ -13,7 +13,7 @@ use Rattle.link_io.specs.declared.source.Flow.{Flow}
 use Rattle.link_io.specs.declared.source.Flow.TheVariants as flow
 use Rattle.link_io.specs.declared.source.Source.{Source}
 
--- the result of a `fill` after the end: an empty slice counts as full
+-- the result of a `fill` of this slice after the end: nothing is given, and an empty slice is full
 abbrev pub filled_at_end : List ℕ → Filled
 filled_at_end [] = filled.Whole
 filled_at_end (byte ∷ buffer) = filled.Ended 0
@@ -111,8 +111,9 @@ module _ {R : Type 0} where
     pub ended : HasEnded source
     pub empty : IsAtEnd (look source.reader).left
 
-  -- What the window is after the source gave these bytes. Only an empty window is read into. So if
-  -- a byte was given, the window is not full. If none was given, the window has not changed.
+  -- What is known of the window after the source gave these bytes. If none was given, the window
+  -- has not changed. If a byte was given, the window is not full, since only an empty window is
+  -- read into, and then the byte came from it.
   pub record ShiftsWindow (old new : Source R) (bytes : List ℕ) : Type 0 where
     pub kept : length bytes ≡ 0 → window_of new ≡ window_of old
     pub less : 0 < length bytes → length (window_of new) < window_size
@@ -163,6 +164,7 @@ module _ {R : Type 0} where
     pub size : n ≡ length (window_of new)
     pub over : n ≡ 0 → IsOver look new
 
+  -- what `ready` did, by its result
   abbrev pub AfterReady : (R → Input) → Source R → Source R → Result ℕ IoFault → Type 0
   AfterReady look old new (Ok n) = ReadiedWindow look old new n
   AfterReady look old new (Err fault) = TakesThenStops look old new [] fault
@@ -174,6 +176,7 @@ module _ {R : Type 0} where
     pub size : n ≡ length (front_of look new)
     pub over : n ≡ 0 → IsOver look new
 
+  -- what `ready_front` did, by its result
   abbrev pub AfterReadyFront : (R → Input) → Source R → Source R → Result ℕ IoFault → Type 0
   AfterReadyFront look old new (Ok n) = ReadiedFront look old new n
   AfterReadyFront look old new (Err fault) = TakesThenStops look old new [] fault
@@ -187,6 +190,7 @@ module _ {R : Type 0} where
     pub live : IsLive look new
     pub over : n ≡ 0 → 0 < length buffer → IsOver look new
 
+  -- what `some` did, by its result; the buffer is as it is after the call
   abbrev pub AfterSome : (R → Input) → Source R → Source R → List ℕ → Result ℕ IoFault → Type 0
   AfterSome look old new buffer (Ok n) = GivenBytes look old new buffer n
   AfterSome look old new buffer (Err fault) = TakesThenStops look old new [] fault
@@ -209,12 +213,14 @@ module _ {R : Type 0} where
     pub part : count < length buffer
     pub stops : TakesThenStops look old new (take count buffer) fault
 
+  -- what `fill` did, by its result; the buffer is as it is after the call
   abbrev pub AfterFill : (R → Input) → Source R → Source R → List ℕ → Result Filled IoFault → Type 0
   AfterFill look old new buffer (Ok filled.Whole) = FilledSlice look old new buffer
   AfterFill look old new buffer (Ok (filled.Ended n)) = EndedSlice look old new buffer n
   AfterFill look old new buffer (Err fault) = StoppedSlice look old new buffer fault
 
-  -- What each call that fills a slice ensures; `before` and `after` are the slice at its two ends.
+  -- What each call that fills a slice ensures. `before` and `after` are the slice before and after
+  -- the call.
   pub record FillsSlice (look : R → Input) (old new : Source R) (before after : List ℕ)
       (result : Result Filled IoFault) : Type 0 where
     pub gives : IsLive look old → AfterFill look old new after result

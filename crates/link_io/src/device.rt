@@ -33,8 +33,8 @@ pub trait InDevice {
             (λ _. (state self.new).failed ≡ (state self.old).failed)
             (λ _. (state self.new).failed ≡ true) };
 
-    /// Reads as [`InDevice::read`] does. A device with a buffer may return one byte only. It then
-    /// holds the others, which a caller sees in place.
+    /// Reads as [`InDevice::read`] does. A device with a buffer may return only the first byte of
+    /// what it read. It then holds the others ([`InDevice::held`]), which a caller sees in place.
     fn read_first(&mut self, buffer: &mut [u8]) -> Result<usize, DeviceFault>
         ensures bound { IfOk result (λ n. n ≤ length buffer.new) }
         ensures bytes { ReadConsumes (state self.old).left (state self.new).left result buffer.new }
@@ -51,7 +51,7 @@ pub trait InDevice {
 
     /// The next bytes, as many as the device already holds.
     ///
-    /// If there are some, a source takes these, and does not read.
+    /// A source that needs bytes takes these if there are any, and does not read.
     fn held(&self) -> &[u8]
         ensures held { result.now ≡ (state self.now).held }
         ensures next { BeginsWith (state self.now).left result.now };

@@ -114,7 +114,7 @@ impl<R: InDevice> Source<R> {
     /// Copies the next available bytes without giving them, and returns how many it copied.
     ///
     /// These are the bytes of the window, and then those that the reader holds, up to the limit of
-    /// an input. It copies as many as there is room for; how many is not promised.
+    /// an input. It copies as many as there is room for. The contract does not promise how many.
     pub fn peek(&self, bytes: &mut [u8]) -> usize
         ensures fits { result ≤ length bytes.old }
         ensures size { length bytes.new ≡ length bytes.old }
@@ -156,7 +156,7 @@ impl<R: InDevice> Source<R> {
 
     /// The bytes of the window, or, if the window is empty, the bytes that the reader holds.
     ///
-    /// They come next, and lie in one piece. What the reader holds is not taken yet.
+    /// These bytes come next, and lie in one piece. What the reader holds is not taken yet.
     #[inline(always)]
     pub fn front(&self) -> &[u8]
         ensures front { result.now ≡ front_of R.state self.now }
@@ -282,8 +282,10 @@ impl<R: InDevice> Source<R> {
         self.read_on(true)
     }
 
-    /// Does the rest of [`Source::ready`], when the window is empty. With `first`, it does the rest
-    /// of [`Source::ready_front`], when nothing is at hand.
+    /// Does the rest of [`Source::ready`] (`first` is false) when the window is empty, and the rest
+    /// of [`Source::ready_front`] (`first` is true) when nothing is at hand.
+    ///
+    /// Returns how many bytes the window then has.
     #[cold]
     #[inline(never)]
     fn read_on(&mut self, first: bool) -> Result<usize, IoFault>
@@ -325,8 +327,8 @@ impl<R: InDevice> Source<R> {
         count
     }
 
-    /// Reads once, into an empty window. With `first`, a reader with a buffer may give one byte,
-    /// and hold the others.
+    /// Reads once, into an empty window, and returns how many bytes. If `first` is true, a reader
+    /// with a buffer may give only the first byte, and hold the others.
     fn read(&mut self, first: bool) -> Result<usize, IoFault>
         requires open { self.old.flow ≡ Flow.Open }
         requires empty { self.old.start ≡ self.old.end }
@@ -454,7 +456,8 @@ impl<R: InDevice> Source<R> {
         Ok(Filled::Whole)
     }
 
-    /// Does [`Source::some`] for the part of the buffer from index `at` on.
+    /// Does [`Source::some`] for the part of the buffer from index `at` on. The result does not
+    /// count the bytes before.
     #[inline]
     fn some_from(&mut self, buffer: &mut [u8], at: usize) -> Result<usize, IoFault>
         requires { at < length buffer.old }
@@ -505,8 +508,8 @@ fn copy_front(window: &mut [u8], bytes: &[u8]) -> usize
     copy_into(window, 0, &bytes[..size])
 }
 
-/// Reads once, into a whole window. With `first`, a reader with a buffer may give one byte, and
-/// hold the others.
+/// Reads once, into a whole window, and returns how many bytes. If `first` is true, a reader with a
+/// buffer may give only the first byte, and hold the others.
 fn read_ahead<R: InDevice>(
     reader: &mut R,
     window: &mut [u8],

@@ -12,7 +12,7 @@ pub trait Text {
 
     /// Writes the text into the page from index `at` on, and returns the index after it.
     ///
-    /// The bytes of the page from that index on have no meaning.
+    /// The bytes of the page after the text may have changed too.
     fn put(&self, page: &mut [u8], at: usize) -> usize
         requires room { at + TEXT_MAX ≤ length page.old }
         ensures text { take result page.new ≡ take at page.old ++ text self.now }

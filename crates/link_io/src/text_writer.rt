@@ -64,7 +64,7 @@ impl<D: OutDevice> TextWriter<D> {
 
     /// Hands on all that waits, and returns the device below.
     ///
-    /// After a fault, a proper prefix of what waits was handed on.
+    /// The result is a fault if a write failed. Then a proper prefix of what waits was handed on.
     pub fn into_device(self) -> (D, Result<(), DeviceFault>)
         ensures ok { OnOk result.1
             (Keeps (output_of D.state self).written (D.state result.0).written) }
@@ -112,7 +112,8 @@ impl<D: OutDevice> TextWriter<D> {
         answer
     }
 
-    /// Does `write` for at least [`LARGE`] bytes, or for bytes that the page has no room for.
+    /// Does `write` for at least [`LARGE`] bytes, or for bytes that the page has no room for. What
+    /// waits is handed on first.
     #[cold]
     #[inline(never)]
     fn write_on(&mut self, bytes: &[u8]) -> Result<usize, DeviceFault>

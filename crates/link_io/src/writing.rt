@@ -38,7 +38,8 @@ fn write_rest<W: OutDevice>(out: &mut W, bytes: &[u8]) -> Result<(), IoFault>
     }
 }
 
-/// Writes the bytes until all are written or a write fails, and returns how many were written.
+/// Writes the bytes until all are written or a write fails. Returns how many were written, and the
+/// fault of the write that failed, if one did.
 pub(crate) fn write_out<W: OutDevice>(out: &mut W, bytes: &[u8]) -> (usize, Result<(), DeviceFault>)
     ensures bound { result.0 ≤ length bytes.now }
     ensures all { OnOk result.1 (result.0 ≡ length bytes.now) }

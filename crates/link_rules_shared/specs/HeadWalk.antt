@@ -10,14 +10,15 @@ use Rattle.link_rules_shared.specs.declared.heads.{WalkStage.WalkStage, WalkStag
 use Rattle.link_rules_shared.specs.declared.heads.{Found.Found, HeadWalk.HeadWalk}
 use Rattle.link_rules_shared.specs.Heads.{is_long, is_open_string, is_open_item, is_encoded, first_from}
 
--- the first head that is sought from this stage on, if `more` bytes follow those seen
+-- the offset of the first head that is sought from this stage on, if the bytes `more` follow those
+-- seen
 abbrev pub first_left : (HeadItem → ℕ → Bool) → WalkStage → (seen more : List ℕ) → Option ℕ
 first_left sought (Inside left) seen more = first_from sought left (length seen) more
 first_left sought (Head offset) seen more = first_from sought 0 offset (drop offset seen ++ more)
 first_left sought Ended seen more = None
 
--- Whatever bytes follow, the first head that is sought is the one at `found`, or if nothing was
--- found yet, the first from this stage on.
+-- Whatever bytes follow, the first head that is sought is at offset `found`. If none was found yet,
+-- it is the first from this stage on.
 pub record HasSought (sought : HeadItem → ℕ → Bool) (found : Option ℕ) (stage : WalkStage)
     (seen : List ℕ) : Type 0 where
   pub reads : (more : List ℕ)
@@ -30,7 +31,8 @@ pub record HasFound (found : Found) (stage : WalkStage) (seen : List ℕ) : Type
   pub item : HasSought is_open_item found.item stage seen
   pub encoded : HasSought is_encoded found.encoded stage seen
 
--- what is found of a kind of heads after a head of `size` bytes at `offset`; `old` was found before
+-- the offset of the first head that is sought, after a head of `size` bytes at `offset`; `old` is
+-- the offset that was found before
 abbrev pub noted : (sought : HeadItem → ℕ → Bool) → (old : Option ℕ) → (offset : ℕ) → HeadItem
     → (size : ℕ) → Option ℕ
 noted sought old offset head size = option_or old (then_some (sought head size) offset)

@@ -24,7 +24,8 @@ shortest_size (Some value) =
 abbrev pub is_long : Head → ℕ → Bool
 is_long head size = nat_lt (shortest_size head.value) size
 
--- whether a head, of any size, is that of a byte string of indefinite length, 5f (section 3.2.3)
+-- whether a head is that of a byte string of indefinite length, 5f (section 3.2.3); its size does
+-- not matter
 abbrev pub is_open_string : Head → ℕ → Bool
 is_open_string head size = is_indefinite head && (head.major == 2)
 
@@ -37,9 +38,9 @@ is_open_item head size = is_indefinite head && not (head.major == 2)
 abbrev pub is_encoded : Head → ℕ → Bool
 is_encoded head size = (head.major == 6) && ((size == 2) && (unwrap_or head.value 0 == 24))
 
--- The offset of the first head that is sought, if the next byte has the offset `offset`, and
--- `inside` more bytes belong to the last head and to its string. There is none after a head that
--- is ill-formed or cut.
+-- The offset of the first head that is sought. The next byte has the offset `offset`, and `inside`
+-- more bytes belong to the last head and to its string. No head is found after one that is
+-- ill-formed or cut.
 unfoldable pub first_from : (sought : Head → ℕ → Bool) → (inside offset : ℕ) → List ℕ → Option ℕ
 first_from sought inside offset [] = None
 first_from sought (suc inside) offset (byte ∷ bytes) = first_from sought inside (offset + 1) bytes

@@ -7,6 +7,7 @@ use Rattle.std.specs.List.{list_any, list_all, position}
 abbrev pub first_of : (mark : ℕ) → List ℕ → Option ℕ
 first_of mark bytes = position (λ byte. byte == mark) bytes
 
+-- the bytes after the one at this index, or all without an index
 abbrev pub after_at : Option ℕ → List ℕ → List ℕ
 after_at None bytes = bytes
 after_at (Some at) bytes = drop (at + 1) bytes
@@ -32,7 +33,7 @@ delimiters = 0x3a ∷ 0x2f ∷ 0x3f ∷ 0x23 ∷ 0x5b ∷ 0x5d ∷ 0x40 ∷ []
 unfoldable pub is_uri_byte : ℕ → Bool
 is_uri_byte byte = is_ascii_graphic byte && not (list_any (λ other. other == byte) others)
 
--- whether the bytes begin with two hexadecimal digits
+-- whether the bytes begin with two hexadecimal digits, which spell an octet in an escape
 abbrev pub begins_octet : List ℕ → Bool
 begins_octet bytes =
     nat_le 2 (length bytes)

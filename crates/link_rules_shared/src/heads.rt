@@ -149,7 +149,8 @@ impl Found {
         self.long = self.long.or(Some(offset));
     }
 
-    /// Keeps the offset of a head that is of these kinds, if it is the first of its kind.
+    /// Keeps the offset of a head for each of these kinds that it is of, if it is the first of that
+    /// kind.
     // It takes no head, so that callers need not store the head in memory.
     #[cold]
     #[inline(never)]
@@ -255,7 +256,8 @@ impl HeadWalk {
         *self = HeadWalk::new();
     }
 
-    /// The offset in the bundle of the first head that is longer than its number needs.
+    /// The offset in the bundle of the first head that is longer than its number needs, or `None`
+    /// if there is none so far.
     #[tactic(auto, using(crate::proofs::Walks::sought_now))]
     pub fn first_long(&self) -> Option<u64>
         ensures { (seen : List ℕ) → HasWalked self.now seen → result ≡ first_long seen }
@@ -279,7 +281,7 @@ impl HeadWalk {
         }
     }
 
-    /// Takes the next piece of the bundle. Many pieces lie within a string.
+    /// Takes the next piece of the bundle. Many pieces lie within a string, and are only counted.
     ///
     /// Offsets are right up to 2^63 - 1 bytes.
     #[inline(always)]

@@ -21,7 +21,7 @@ use Rattle.link_tool_option_types.specs.declared.wanted.Wanted.{Wanted}
 
 -- ---- the output
 
--- all transfers are selected, or those with one ID
+-- whether the transfer `id` is selected; without an ID to select, all are
 abbrev pub is_selected : Option ℕ → ℕ → Bool
 is_selected None id = true
 is_selected (Some only) id = only == id

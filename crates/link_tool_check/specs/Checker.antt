@@ -13,6 +13,7 @@ use Rattle.link_tool_check.specs.declared.checker.Checker.{Checker}
 use Rattle.link_tool_option_types.specs.declared.check.CheckOptions.{CheckOptions}
 use Rattle.link_tool_check.specs.declared.transfer.CheckedTransfer.{CheckedTransfer}
 
+-- the transfer for its judge, to which it makes no difference whether it is closed
 abbrev pub transfer_of : Begun → Transfer
 transfer_of begun = record { first = begun.first; content = begun.content; closed = false }
 

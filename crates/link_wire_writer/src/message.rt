@@ -31,7 +31,7 @@ type Tail = ArrayVec<u8, 8>;
 ///
 /// # Errors
 ///
-/// The slice has less than 6 bytes.
+/// The slice has fewer than 6 bytes.
 pub fn write_contact(flags: u8, slice: &mut [u8]) -> Result<usize, WriteFault>
     ensures { WritesSlice (Some (contact_bytes flags)) slice.old slice.new result }
 {

@@ -159,7 +159,9 @@ pub extern "C" fn tcpclkit_raw_start_check(check: &mut KeptCheck, kind: u64) -> 
     }
 }
 
-/// Feeds a piece to a check.
+/// Feeds the next bytes of a block to its check.
+///
+/// Returns `OK`, or `RANGE` if the numbers are those of no check.
 #[unsafe(no_mangle)]
 pub extern "C" fn tcpclkit_raw_feed_check(check: &mut KeptCheck, piece: &[u8]) -> u32
     ensures fed { (kind : CheckKind) (before : List ℕ) → IsKeptCheckAt kind check.old before

@@ -49,7 +49,7 @@ fn no_fields<'a>() -> PrimaryBlock<'a>
     }
 }
 
-/// Adds to a fault the first `count` elements of the block, which come before it.
+/// Adds the first `count` elements of the block, which come before the part, to the part's fault.
 #[inline(always)]
 fn after<'a, T>(
     count: u64,
@@ -67,7 +67,7 @@ fn after<'a, T>(
     }
 }
 
-/// Reads the first byte of a bundle, and returns the offset after it.
+/// Reads the first byte of a bundle, [`OPENING`], and returns the offset after it.
 #[tactic(auto, using(std::proofs::lemmas::List::nil_from_length, std::proofs::lemmas::Slice::first_rest), unfolding(crate::specs::Bundle::opening_at))]
 fn opening_at(bytes: &[u8]) -> Result<usize, PartFault>
     ensures read { passed_of result ≡ opening_at bytes.now }
@@ -194,7 +194,7 @@ fn stored_at(kind: CheckKind, bytes: &[u8], offset: usize) -> Result<usize, Part
 
 /// Reads the first byte of a bundle and its primary block with its check field.
 ///
-/// The error has the fields before the first fault too.
+/// The error is the first fault, with the fields before it.
 #[tactic(auto, using(crate::proofs::Elements::whole_block), unfolding(crate::specs::PrimaryFields::whole_elements, crate::specs::PrimaryFields::primary_fields))]
 pub fn primary_at(bytes: &[u8]) -> Result<PrimaryBlock<'_>, (PrimaryView<'_>, PartFault)>
     ensures reads { primary_reading result ≡ whole_primary bytes.now }
