@@ -973,7 +973,8 @@ struct tcpclkit_sent {
  *
  * Proved of tcpclkit_raw_judge_answer: the status and `fault` are `judged_answer` of what was sent
  * and of the message, and `acknowledged` is that of `after_answer`. So after some answers that were
- * accepted (`HasAnswers`), `acknowledged` is the length in the last XFER_ACK among them, or 0.
+ * accepted (`IsAcknowledgedByAnswers`), `acknowledged` is the length in the last XFER_ACK among
+ * them, or 0.
  */
 uint32_t tcpclkit_raw_judge_answer(struct tcpclkit_sent *sent,
                                    const struct tcpclkit_message *message);

@@ -4,7 +4,7 @@ use Rattle.std.proofs.Common.{◌≡◌, ℕ, ◌+◌, ◌≤◌, ⊎_elim, Bool
 use Rattle.std.specs.Prelude.{◌==◌}
 use Rattle.std.proofs.lemmas.{Bool.false≢true, List.{drop-append-le, take-append-le}}
 use Rattle.std.proofs.Math.{ListN.drop_of_length-le, Seq.take-nil}
-use Rattle.link_bundle_blocks.specs.Laws.{PayloadLasts, PayloadPlaced, PayloadEnds}
+use Rattle.link_bundle_blocks.specs.Laws.{PayloadLasts, SpanDeterminesPayload, PayloadEnds}
 use Rattle.link_bundle_types.specs.declared.fault.BundleFault.TheVariants.{Cut}
 use Rattle.link_bundle_heads.specs.Rows.{◌>>=◌}
 use Rattle.link_bundle_blocks.specs.Reading.{Stop}
@@ -47,9 +47,9 @@ nothing_from : (bytes : List ℕ) (offset size : ℕ) → length bytes ≤ offse
 nothing_from bytes offset size follows =
     sym (ap (λ (rest : List ℕ). take size rest) (drop_of_length-le bytes follows) ∙ take-nil size)
 
-pub PayloadPlaced-holds : PayloadPlaced
+pub SpanDeterminesPayload-holds : SpanDeterminesPayload
 unfolding payload_in
-PayloadPlaced-holds bytes more offset size is =
+SpanDeterminesPayload-holds bytes more offset size is =
     let later = sym (payload_of-judged (bytes ++ more)) ∙ is in
     ap (λ (known : Option (ℕ × ℕ)). bytes_of known bytes) (payload_of-judged bytes)
     ∙ ⊎_elim

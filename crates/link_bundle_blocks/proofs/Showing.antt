@@ -5,7 +5,7 @@ use Rattle.std.proofs.lemmas.{Bool.false≢true, List.append_cancel_left}
 use Rattle.std.specs.Prelude.{◌==◌}
 use Rattle.link_bundle_blocks.specs.{Blocks.Block, Reading.Stop}
 use Rattle.link_bundle_blocks.specs.Bundle.{Bundle, bundle_at, blocks_of, cut_block_of, blocks_in, cut_block_in}
-use Rattle.link_bundle_blocks.specs.Laws.{BlocksGrow, NoBlocksAfterEnd, BlockPlaced}
+use Rattle.link_bundle_blocks.specs.Laws.{BlocksGrow, NoBlocksAfterEnd, NextBlockIsCutOrLater}
 use Rattle.link_bundle_blocks.proofs.{Steady.of_either, Keeping.bundle_at-keeps, Payloads.{judged_as, cut_goes-on}}
 
 pub blocks_judged : (bytes : List ℕ) → blocks_in bytes ≡ blocks_of (bundle_at bytes)
@@ -35,9 +35,9 @@ NoBlocksAfterEnd-holds bytes more stops =
     (bundle_at-keeps bytes more).ends.lasts
     ∙ sym (blocks_judged bytes)
 
-pub BlockPlaced-holds : BlockPlaced
+pub NextBlockIsCutOrLater-holds : NextBlockIsCutOrLater
 unfolding BlocksGrow-holds
-BlockPlaced-holds bytes more new block grown comes =
+NextBlockIsCutOrLater-holds bytes more new block grown comes =
     let same : new ≡ (bundle_at-keeps bytes more).ends.new =
     append_cancel_left (blocks_in bytes) new _
     (sym grown ∙ (BlocksGrow-holds bytes more).1) in

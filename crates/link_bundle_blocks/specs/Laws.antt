@@ -33,8 +33,8 @@ PayloadLasts =
 
 -- The offset and the length of the payload determine which of its bytes are there. This holds for
 -- fewer bytes too, in which the two may not be known yet.
-abbrev pub PayloadPlaced : Type 0
-PayloadPlaced =
+abbrev pub SpanDeterminesPayload : Type 0
+SpanDeterminesPayload =
     (bytes more : List ℕ) (offset size : ℕ) →
     payload_of (judged_bundle (bytes ++ more)) ≡ Some (offset, size)
     → payload_in bytes ≡ take size (drop offset bytes)
@@ -61,8 +61,8 @@ BlocksWithin = (bytes : List ℕ) → All (LiesWithin (length bytes)) (blocks_in
 
 -- When more bytes follow, the next canonical block is the one that the first bytes cut short, or
 -- its data begins after them.
-abbrev pub BlockPlaced : Type 0
-BlockPlaced =
+abbrev pub NextBlockIsCutOrLater : Type 0
+NextBlockIsCutOrLater =
     (bytes more : List ℕ) (new : List Block) (block : CanonicalBlock) →
     blocks_in (bytes ++ more) ≡ blocks_in bytes ++ new →
     next_of new (cut_block_in (bytes ++ more)) ≡ Some block →

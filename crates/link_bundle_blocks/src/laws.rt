@@ -3,7 +3,7 @@
 //! The functions do nothing when they run. Their contracts are the laws.
 ghost use Rattle.std.specs.Prelude.{◌≡◌, ℕ, List, take};
 ghost use Rattle.link_bundle_blocks.specs.PrimaryFields.{primary_fields};
-ghost use Rattle.link_bundle_blocks.specs.Laws.{FaultLasts, TrailingLasts, PayloadLasts, PayloadPlaced, PayloadEnds, BlocksGrow, NoBlocksAfterEnd, BlocksWithin, BlockPlaced, GoodBlocksTile};
+ghost use Rattle.link_bundle_blocks.specs.Laws.{FaultLasts, TrailingLasts, PayloadLasts, SpanDeterminesPayload, PayloadEnds, BlocksGrow, NoBlocksAfterEnd, BlocksWithin, NextBlockIsCutOrLater, GoodBlocksTile};
 
 /// How the verdict on some bytes lasts when more bytes follow.
 ///
@@ -18,7 +18,7 @@ pub fn verdict_lasts()
     ensures fault { FaultLasts }
     ensures trailing { TrailingLasts }
     ensures payload { PayloadLasts }
-    ensures placed { PayloadPlaced }
+    ensures placed { SpanDeterminesPayload }
     ensures ends { PayloadEnds }
 {}
 
@@ -32,7 +32,7 @@ pub fn blocks_last()
     ensures grow { BlocksGrow }
     ensures end { NoBlocksAfterEnd }
     ensures within { BlocksWithin }
-    ensures placed { BlockPlaced }
+    ensures placed { NextBlockIsCutOrLater }
 {}
 
 /// How the blocks divide a good bundle.

@@ -7,7 +7,7 @@ use Rattle.link_bundle.specs.Scan.{HasScanned, ending}
 use Rattle.link_bundle_blocks.specs.declared.block.CanonicalBlock.{CanonicalBlock}
 use Rattle.link_bundle.specs.declared.scan.BundleScan.{BundleScan}
 use Rattle.link_bundle_blocks.proofs.Lying.{BlocksWithin-holds}
-use Rattle.link_bundle_blocks.proofs.Showing.{NoBlocksAfterEnd-holds, BlockPlaced-holds}
+use Rattle.link_bundle_blocks.proofs.Showing.{NoBlocksAfterEnd-holds, NextBlockIsCutOrLater-holds}
 use Rattle.link_bundle.proofs.Verdicts.{no_cut}
 use Rattle.link_bundle_data_in_pieces.specs.{Found.flags_after, DataReader.{IsDataReaderAt, IsDataReaderIn}}
 use Rattle.link_bundle_data_in_pieces.specs.declared.data.DataReader.{DataReader}
@@ -25,7 +25,7 @@ placed reader seen run new block reading goes grown comes before =
     ⊎_elim
     (λ (cut : cut_block_in seen ≡ Some block). reading.at_cut goes block cut)
     (λ (after : length seen ≤ block.data_start). absurd (omega arith))
-    (BlockPlaced-holds seen run new block grown comes)
+    (NextBlockIsCutOrLater-holds seen run new block grown comes)
 
 -- ---- after a run
 

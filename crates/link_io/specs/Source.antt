@@ -114,7 +114,7 @@ module _ {R : Type 0} where
   -- What is known of the window after the source gave these bytes. If none was given, the window
   -- has not changed. If a byte was given, the window is not full, since only an empty window is
   -- read into, and then the byte came from it.
-  pub record ShiftsWindow (old new : Source R) (bytes : List ℕ) : Type 0 where
+  pub record KeepsWindowUnlessGiven (old new : Source R) (bytes : List ℕ) : Type 0 where
     pub kept : length bytes ≡ 0 → window_of new ≡ window_of old
     pub less : 0 < length bytes → length (window_of new) < window_size
 
@@ -125,7 +125,7 @@ module _ {R : Type 0} where
     pub next : Consumes (ahead look old) (ahead look new) bytes
     pub count : given_by new ≡ given_by old + length bytes
     pub device : (look new.reader).failed ≡ (look old.reader).failed
-    pub window : ShiftsWindow old new bytes
+    pub window : KeepsWindowUnlessGiven old new bytes
 
   -- From `old` to `new` nothing was given, and the reader did not fail. A window that had bytes has
   -- not changed.

@@ -6,12 +6,12 @@ use Rattle.link_io.specs.declared.fault.IoFault.TheVariants as io
 
 module _ {W : Type 0} where
   -- the bytes were written, and the device did not fail
-  pub record WritesWhole (look : W → Output) (old new : W) (bytes : List ℕ) : Type 0 where
+  pub record WrittenWhole (look : W → Output) (old new : W) (bytes : List ℕ) : Type 0 where
     pub written : Appends (look old).written (look new).written bytes
     pub device : (look new).failed ≡ (look old).failed
 
   -- a proper prefix of the bytes was written, and then the device failed
-  pub record WritesPrefix (look : W → Output) (old new : W) (bytes : List ℕ)
+  pub record WrittenPrefix (look : W → Output) (old new : W) (bytes : List ℕ)
       (fault : IoFault) : Type 0 where
     pub kind : fault ≡ io.Write
     pub count : ℕ

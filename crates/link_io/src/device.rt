@@ -3,7 +3,7 @@
 ghost use Rattle.std.specs.Prelude.{◌≡◌, ℕ, ◌<◌, ◌≤◌, true, false, List, [], length, take, drop, Option, OnOk, IfOk, IfErr, MatchResult};
 ghost use Rattle.std.specs.Io.KnownBytes.{Consumes, Keeps, ReadConsumes, WriteAppends};
 ghost use Rattle.link_io.specs.Device.{Input, Output, BeginsWith};
-ghost use Rattle.link_io.specs.Writing.{WritesWhole, WritesPrefix};
+ghost use Rattle.link_io.specs.Writing.{WrittenWhole, WrittenPrefix};
 
 use crate::fault::IoFault;
 use crate::text::{TEXT_MAX, Text};
@@ -92,8 +92,8 @@ pub trait OutDevice {
     /// [`IoFault::Write`], and then a proper prefix of the text was written.
     fn write_text<T: Text>(&mut self, text: &T, page: &mut [u8]) -> Result<(), IoFault>
         requires page { TEXT_MAX ≤ length page.old }
-        ensures ok { OnOk result (WritesWhole state self.old self.new (T.text text.now)) }
-        ensures err { IfErr result (WritesPrefix state self.old self.new (T.text text.now)) }
+        ensures ok { OnOk result (WrittenWhole state self.old self.new (T.text text.now)) }
+        ensures err { IfErr result (WrittenPrefix state self.old self.new (T.text text.now)) }
         ensures size { length page.new ≡ length page.old }
     {
         let end = text.put(page, 0);

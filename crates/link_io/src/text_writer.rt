@@ -59,7 +59,7 @@ impl<D: OutDevice> TextWriter<D> {
 
     ghost use Rattle.std.specs.Prelude.{◌≡◌, ◌+◌, ◌<◌, ◌≤◌, [], ◌++◌, length, OnOk, OnErr, IfOk, IfErr, true, MatchResult};
     ghost use Rattle.std.specs.Io.KnownBytes.{Keeps, WriteAppends};
-    ghost use Rattle.link_io.specs.Writing.{WritesWhole, WritesPrefix};
+    ghost use Rattle.link_io.specs.Writing.{WrittenWhole, WrittenPrefix};
     ghost use Rattle.link_io.specs.TextWriter.{device_of, waiting, output_of, AppendsPart};
 
     /// Hands on all that waits, and returns the device below.
@@ -139,8 +139,8 @@ impl<D: OutDevice> TextWriter<D> {
     #[inline(never)]
     fn write_made(&mut self, text: &[u8]) -> Result<(), IoFault>
         requires { length text.now ≤ TEXT_MAX }
-        ensures ok { OnOk result (WritesWhole (output_of D.state) self.old self.new text.now) }
-        ensures err { IfErr result (WritesPrefix (output_of D.state) self.old self.new text.now) }
+        ensures ok { OnOk result (WrittenWhole (output_of D.state) self.old self.new text.now) }
+        ensures err { IfErr result (WrittenPrefix (output_of D.state) self.old self.new text.now) }
     {
         if text.is_empty() {
             return Ok(());

@@ -2,7 +2,7 @@
 
 ghost use Rattle.std.specs.Prelude.{◌≡◌, ◌<◌, ◌≤◌, true, length, take, drop, ℕ, OnOk, OnErr, IfErr, MatchResult};
 ghost use Rattle.std.specs.Io.KnownBytes.{Appends};
-ghost use Rattle.link_io.specs.Writing.{WritesWhole, WritesPrefix};
+ghost use Rattle.link_io.specs.Writing.{WrittenWhole, WrittenPrefix};
 
 use crate::device::{DeviceFault, OutDevice};
 use crate::fault::IoFault;
@@ -12,8 +12,8 @@ use crate::fault::IoFault;
 /// The fault is [`IoFault::Write`], and then a proper prefix of the bytes was written.
 #[inline(always)]
 pub fn write_whole<W: OutDevice>(out: &mut W, bytes: &[u8]) -> Result<(), IoFault>
-    ensures ok { OnOk result (WritesWhole W.state out.old out.new bytes.now) }
-    ensures err { IfErr result (WritesPrefix W.state out.old out.new bytes.now) }
+    ensures ok { OnOk result (WrittenWhole W.state out.old out.new bytes.now) }
+    ensures err { IfErr result (WrittenPrefix W.state out.old out.new bytes.now) }
 {
     if bytes.is_empty() {
         return Ok(());
@@ -29,8 +29,8 @@ pub fn write_whole<W: OutDevice>(out: &mut W, bytes: &[u8]) -> Result<(), IoFaul
 #[cold]
 #[inline(never)]
 fn write_rest<W: OutDevice>(out: &mut W, bytes: &[u8]) -> Result<(), IoFault>
-    ensures ok { OnOk result (WritesWhole W.state out.old out.new bytes.now) }
-    ensures err { IfErr result (WritesPrefix W.state out.old out.new bytes.now) }
+    ensures ok { OnOk result (WrittenWhole W.state out.old out.new bytes.now) }
+    ensures err { IfErr result (WrittenPrefix W.state out.old out.new bytes.now) }
 {
     match write_out(out, bytes) {
         (_, Ok(())) => Ok(()),

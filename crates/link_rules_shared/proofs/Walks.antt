@@ -11,7 +11,7 @@ use Rattle.link_cbor.proofs.{HeadLaws.{head_alone, whole_stays, ill_formed_stays
 use Rattle.link_rules_shared.specs.declared.heads.{WalkStage.WalkStage, WalkStage.TheVariants.{Inside, Head, Ended}}
 use Rattle.link_rules_shared.specs.declared.heads.{Found.Found, HeadWalk.HeadWalk}
 use Rattle.link_rules_shared.specs.Heads.{content_size, is_long, is_open_string, is_open_item, is_encoded, first_from}
-use Rattle.link_rules_shared.specs.HeadWalk.{first_left, HasSought, HasFound, NotesHead, IsAtStage, HasWalkedBy, HasWalked, TakesRun}
+use Rattle.link_rules_shared.specs.HeadWalk.{first_left, HasSought, HasFound, NotesHead, HeadScanFits, HasWalkedBy, HasWalked, TakesRun}
 
 -- ---- the definition, step by step
 
@@ -304,7 +304,7 @@ taken_then old middle new run more first second = record {
 -- ---- what is found in the bytes seen
 
 first_left-nil : (sought : HeadItem → ℕ → Bool) (stage : WalkStage) (head : HeadScan) (seen : List ℕ)
-    → IsAtStage stage head seen → first_left sought stage seen [] ≡ None
+    → HeadScanFits stage head seen → first_left sought stage seen [] ≡ None
 unfolding first_from
 first_left-nil sought (Inside left) head seen stands = refl
 first_left-nil sought (Head offset) head seen stands =
@@ -317,7 +317,7 @@ or_none (Some at) = refl
 
 pub sought_now : (sought : HeadItem → ℕ → Bool) (found : Option ℕ) (stage : WalkStage)
     (head : HeadScan) (seen : List ℕ) → HasSought sought found stage seen
-    → IsAtStage stage head seen → found ≡ first_from sought 1 0 seen
+    → HeadScanFits stage head seen → found ≡ first_from sought 1 0 seen
 sought_now sought found stage head seen come stands =
     let reads = come.reads [] in
     rw (append-nil seen, first_left-nil sought stage head seen stands, or_none found) at (sym reads)

@@ -51,17 +51,17 @@ pub record IsInHead (head : HeadScan) (offset : ℕ) (seen : List ℕ) : Type 0 
   pub cut : head_front (drop offset seen) ≡ Cut
 
 -- the state of the scan of a head at each stage; between two heads it is new
-abbrev pub IsAtStage : WalkStage → HeadScan → List ℕ → Type 0
-IsAtStage (Inside left) head seen = HasScannedHead head []
-IsAtStage (Head offset) head seen = IsInHead head offset seen
-IsAtStage Ended head seen = Unit {0}
+abbrev pub HeadScanFits : WalkStage → HeadScan → List ℕ → Type 0
+HeadScanFits (Inside left) head seen = HasScannedHead head []
+HeadScanFits (Head offset) head seen = IsInHead head offset seen
+HeadScanFits Ended head seen = Unit {0}
 
 -- these are the parts of a walk that has seen exactly these bytes
 pub record HasWalkedBy (stage : WalkStage) (found : Found) (head : HeadScan) (count : ℕ)
     (seen : List ℕ) : Type 0 where
   pub counted : count ≡ length seen
   pub sought : HasFound found stage seen
-  pub stands : IsAtStage stage head seen
+  pub stands : HeadScanFits stage head seen
 
 -- the walk has seen exactly these bytes
 abbrev pub HasWalked : HeadWalk → List ℕ → Type 0

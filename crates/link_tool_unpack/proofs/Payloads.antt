@@ -2,7 +2,7 @@
 use Rattle.std.proofs.Common.{◌≡◌, ℕ, ◌+◌, ◌<◌, List, [], ◌++◌, length, take, drop, Option, Some, None, sym, ap, ◌∙◌, append-nil, refl}
 use Rattle.link_bundle_blocks.specs.Bundle.{judged_bundle, payload_of, bytes_of, payload_in, spanned, payload_seen}
 use Rattle.link_bundle.specs.{Part.part_in, Scan.{HasScanned, HasJudged}, declared.scan.BundleScan.BundleScan}
-use Rattle.link_bundle_blocks.proofs.Payloads.{PayloadLasts-holds, PayloadPlaced-holds}
+use Rattle.link_bundle_blocks.proofs.Payloads.{PayloadLasts-holds, SpanDeterminesPayload-holds}
 use Rattle.link_bundle.proofs.{Parts.{part_more, part_fits, no_part}, Pieces.payload_judged}
 
 -- the payload's offset and size are known; `count` bytes of it are there
@@ -53,7 +53,7 @@ module _ (scan : BundleScan) (content piece : List ℕ)
         part_fits whole place here.size count limit count_is short,
         after ∙ part_more content piece place here.size count count_is
             ∙ ap (λ xs. xs ++ part_in piece (length content) place count)
-            (sym (PayloadPlaced-holds content piece place here.size where_now)),
+            (sym (SpanDeterminesPayload-holds content piece place here.size where_now)),
       )
 
   -- the data with the piece has no payload bytes, so the data before the piece had none

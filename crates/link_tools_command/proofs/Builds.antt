@@ -5,7 +5,7 @@ use Rattle.std.specs.{Prelude.{◌||◌, fold}, Borrow.Bor}
 use Rattle.clap.specs.Words.{AddsArg, App, Rule, Shape, Text, app_of, with_rule}
 use Rattle.clap.specs.declared.builder.{arg.Arg.Arg, value_parser.ValueParser.ValueParser}
 use Rattle.clap.specs.declared.builder.{texts.Texts.TheVariants.One, command.Command.Command}
-use Rattle.link_tools_command.specs.{Building.{AddsRules, HasRule, IsTool}, Table.{number, tool}}
+use Rattle.link_tools_command.specs.{Building.{AddsRules, HasRule, IsToolOfShape}, Table.{number, tool}}
 
 pub joined : {rs qs : List Rule} {a b c : Command} → AddsRules rs a b → AddsRules qs b c
     → AddsRules (rs ++ qs) a c
@@ -69,8 +69,8 @@ top_joined : (a : App) (rs : List Rule)
 top_joined a [] = ap (λ rules. record a.top { rules = rules }) (sym (append-nil a.top.rules))
 top_joined a (r ∷ rs) = top_joined (with_rule a r) rs ∙ ap (λ rules. record a.top { rules = rules }) (append_assoc a.top.rules (r ∷ []) rs)
 
-pub whole_tool : {name : Text} {rs : List Rule} {old new : Command} → IsTool (tool name []) old
-    → AddsRules rs old new → IsTool (tool name rs) new
+pub whole_tool : {name : Text} {rs : List Rule} {old new : Command} → IsToolOfShape (tool name []) old
+    → AddsRules rs old new → IsToolOfShape (tool name rs) new
 whole_tool {name} {rs} {old} bare adds = record {
   shape = ap (λ (a : App). a.top) adds.app ∙ top_joined (app_of old) rs ∙ ap (λ (s : Shape). record s { rules = s.rules ++ rs }) bare.shape;
   local = adds.globals ∙ bare.local;

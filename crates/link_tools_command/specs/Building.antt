@@ -15,6 +15,6 @@ pub record AddsRules (rules : List Rule) (old new : Command) : Type 0 where
   pub globals : (fields_of new).has_globals ≡ (fields_of old).has_globals
 
 -- the command is a tool of this shape, and has no global arguments
-pub record IsTool (words : Shape) (command : Command) : Type 0 where
+pub record IsToolOfShape (words : Shape) (command : Command) : Type 0 where
   pub shape : shape_of command ≡ words
   pub local : (fields_of command).has_globals ≡ false

@@ -3,7 +3,7 @@
 
 ghost use Rattle.std.specs.Prelude.{◌≡◌, [], ◌∷◌, codes, IfOk, true};
 ghost use Rattle.clap.specs.Words.{app_of};
-ghost use Rattle.link_tools_command.specs.Building.{AddsRules, HasRule, IsTool};
+ghost use Rattle.link_tools_command.specs.Building.{AddsRules, HasRule, IsToolOfShape};
 ghost use Rattle.link_tools_command.specs.Table.{any_u16, any_u64, blocks_words, check_words, file, flag, list_words, number, number_or, one_or_more, option, pack_words, program, table, tool, unpack_words, up_to_1048576};
 
 use clap::builder::ValueParser;
@@ -179,14 +179,14 @@ fn program<'a>(alloc: Global) -> Command<'a>
 /// Makes the command of the tool `list`.
 #[tactic(auto, using(crate::proofs::Builds::tools), unfolding(crate::specs::Table::list_words))]
 fn list_command<'a>(alloc: Global) -> Result<Command<'a>, AllocError>
-    ensures { IfOk result (IsTool list_words) }
+    ensures { IfOk result (IsToolOfShape list_words) }
 {
     tool(alloc, "list", LIST_ABOUT, LIST_HELP).arg(file(alloc))
 }
 
 /// Makes the command of the tool `unpack`.
 fn unpack_command<'a>(alloc: Global) -> Result<Command<'a>, AllocError>
-    ensures { IfOk result (IsTool unpack_words) }
+    ensures { IfOk result (IsToolOfShape unpack_words) }
 {
     let tool = tool(alloc, "unpack", UNPACK_ABOUT, UNPACK_HELP);
     let one = with_selection(alloc, tool)?;
@@ -212,7 +212,7 @@ fn with_selection<'a>(alloc: Global, tool: Command<'a>) -> Result<Command<'a>, A
 
 /// Makes the command of the tool `blocks`.
 fn blocks_command<'a>(alloc: Global) -> Result<Command<'a>, AllocError>
-    ensures { IfOk result (IsTool blocks_words) }
+    ensures { IfOk result (IsToolOfShape blocks_words) }
 {
     let tool = tool(alloc, "blocks", BLOCKS_ABOUT, BLOCKS_HELP);
     let one = with_shown(alloc, tool)?;
@@ -237,7 +237,7 @@ fn with_shown<'a>(alloc: Global, tool: Command<'a>) -> Result<Command<'a>, Alloc
 
 /// Makes the command of the tool `check`.
 fn check_command<'a>(alloc: Global) -> Result<Command<'a>, AllocError>
-    ensures { IfOk result (IsTool check_words) }
+    ensures { IfOk result (IsToolOfShape check_words) }
 {
     let tool = tool(alloc, "check", CHECK_ABOUT, CHECK_HELP);
     let one = with_judged(alloc, tool)?;
@@ -274,7 +274,7 @@ fn with_judged<'a>(alloc: Global, tool: Command<'a>) -> Result<Command<'a>, Allo
 /// Makes the command of the tool `pack`.
 #[tactic(auto, using(crate::proofs::Builds::tools), unfolding(crate::specs::Table::pack_words))]
 fn pack_command<'a>(alloc: Global) -> Result<Command<'a>, AllocError>
-    ensures { IfOk result (IsTool pack_words) }
+    ensures { IfOk result (IsToolOfShape pack_words) }
 {
     let tool = tool(alloc, "pack", PACK_ABOUT, PACK_HELP);
     let one = with_sender(alloc, tool)?;
@@ -439,7 +439,7 @@ fn peer_transfer<'a>(alloc: Global) -> Arg<'a>
 
 /// Makes a tool without its arguments; `about` and `help` are texts of its `--help`.
 fn tool<'a>(alloc: Global, name: &'a str, about: &'a str, help: &'a str) -> Command<'a>
-    ensures { IsTool (tool name.entry.now []) result }
+    ensures { IsToolOfShape (tool name.entry.now []) result }
 {
     Command::new(alloc, name).about(about).after_help(help)
 }

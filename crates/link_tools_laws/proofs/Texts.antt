@@ -7,7 +7,7 @@ use Rattle.link_tool_option_types.specs.declared.check.CheckOptions.{CheckOption
 use Rattle.link_wire.specs.{Stream.{Entry, Stream, Reading, reading_of}, Codes.is_start}
 use Rattle.link_wire.specs.declared.message.Message.{Message}
 use Rattle.link_bundle_blocks.specs.Bundle.{judged_bundle, payload_of, bytes_of, payload_in}
-use Rattle.link_bundle_blocks.proofs.Payloads.{PayloadLasts-holds, PayloadPlaced-holds}
+use Rattle.link_bundle_blocks.proofs.Payloads.{PayloadLasts-holds, SpanDeterminesPayload-holds}
 use Rattle.link_bundle.proofs.Parts.{part_more}
 use Rattle.link_transfer.specs.declared.joiner.Turn.{Turn}
 use Rattle.link_report.specs.Message.{message_text}
@@ -89,7 +89,7 @@ module _ (bytes more : List ℕ) where
       rw none (front_none [])
   payload_by (Some (place, size)) is =
       let P : List ℕ → Type 0 = λ part. IsPrefixOf part (take size (drop place (bytes ++ more))) in
-      subst P (sym (PayloadPlaced-holds bytes more place size is)) (_, part_more bytes more place size _ refl)
+      subst P (sym (SpanDeterminesPayload-holds bytes more place size is)) (_, part_more bytes more place size _ refl)
 
   pub payload_front : IsPrefixOf (payload_in bytes) (payload_in (bytes ++ more))
   unfolding payload_in

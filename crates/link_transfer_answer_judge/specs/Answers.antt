@@ -64,5 +64,5 @@ acknowledged_by (Ack flags id size ∷ older) = size
 acknowledged_by (Refuse reason id ∷ older) = acknowledged_by older
 
 -- What was sent, with exactly these answers accepted, the newest first.
-pub record HasAnswers (sent : Sent) (answers : List Answer) : Type 0 where
+pub record IsAcknowledgedByAnswers (sent : Sent) (answers : List Answer) : Type 0 where
   pub acknowledged : sent.acknowledged ≡ acknowledged_by answers

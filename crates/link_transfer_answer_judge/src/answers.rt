@@ -60,14 +60,14 @@ pub struct Sent {
 
 impl Sent {
     ghost use Rattle.std.specs.Prelude.{◌≡◌, List, [], ◌∷◌, OnOk};
-    ghost use Rattle.link_transfer_answer_judge.specs.Answers.{ack_fault, judged_answer, after_answer, HasAnswers, nothing_sent};
+    ghost use Rattle.link_transfer_answer_judge.specs.Answers.{ack_fault, judged_answer, after_answer, IsAcknowledgedByAnswers, nothing_sent};
     ghost use Rattle.link_transfer_answer_judge.specs.declared.answers.Answer.{Answer};
 
     /// A transfer of which nothing was sent.
     #[tactic(auto, unfolding(crate::specs::Answers::acknowledged_by))]
     pub fn new(id: u64) -> Sent
         ensures is { result ≡ nothing_sent id }
-        ensures answers { HasAnswers result [] }
+        ensures answers { IsAcknowledgedByAnswers result [] }
     {
         Sent {
             id,
@@ -100,8 +100,8 @@ impl Sent {
     pub fn judge(&mut self, answer: Answer) -> Result<(), AnswerFault>
         ensures judged { result ≡ judged_answer self.old answer }
         ensures after { self.new ≡ after_answer self.old answer }
-        ensures answers { (older : List Answer) → HasAnswers self.old older
-            → OnOk result (HasAnswers self.new (answer ∷ older)) }
+        ensures answers { (older : List Answer) → IsAcknowledgedByAnswers self.old older
+            → OnOk result (IsAcknowledgedByAnswers self.new (answer ∷ older)) }
     {
         match answer {
             Answer::Ack { id, .. } | Answer::Refuse { id, .. } if id != self.id => {

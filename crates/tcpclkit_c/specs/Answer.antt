@@ -1,7 +1,7 @@
 -- What the export that judges answers to a transfer returns.
 use Rattle.std.specs.Prelude.{◌≡◌, ℕ, ◌==◌, nat_lt, List, ◌∷◌, Option, Some, None, Result, Ok, Err, if◌then◌else◌}
 use Rattle.link_wire.specs.declared.message.Fields.{Fields}
-use Rattle.link_transfer_answer_judge.specs.Answers.{answer_of, judged_answer, after_answer, HasAnswers}
+use Rattle.link_transfer_answer_judge.specs.Answers.{answer_of, judged_answer, after_answer, IsAcknowledgedByAnswers}
 use Rattle.link_transfer_answer_judge.specs.declared.answers.{Answer.Answer, AnswerFault.AnswerFault, Sent.Sent}
 use Rattle.link_ffi_numbers.specs.Fault.{answer_code}
 use Rattle.link_ffi_numbers.specs.declared.recording.Message.{Message}
@@ -29,9 +29,9 @@ pub record IsAnswer (it : Message) (answer : Answer) : Type 0 where
 abbrev pub IsNoAnswer : Message → Type 0
 IsNoAnswer it = (answer : Answer) → IsAnswer it answer → ⊥
 
-abbrev pub AnswerBy : Message → Option Answer → Type 0
-AnswerBy it (Some answer) = IsAnswer it answer
-AnswerBy it None = IsNoAnswer it
+abbrev pub IsAnswerOrNone : Message → Option Answer → Type 0
+IsAnswerOrNone it (Some answer) = IsAnswer it answer
+IsAnswerOrNone it None = IsNoAnswer it
 
 -- the code of what is wrong with an answer, and TCPCLKIT_OK or TCPCLKIT_FAULT
 abbrev pub answer_numbers : Result (Unit {0}) AnswerFault → ℕ × ℕ
@@ -47,5 +47,5 @@ pub record ReturnsAnswer (before : Sent) (answer : Answer) (old new : SentNumber
     fault = (answer_numbers (judged_answer before answer)).0;
   }
   pub returns : status ≡ (answer_numbers (judged_answer before answer)).1
-  pub counts : (older : List Answer) → HasAnswers before older → status ≡ 0
-      → HasAnswers (after_answer before answer) (answer ∷ older)
+  pub counts : (older : List Answer) → IsAcknowledgedByAnswers before older → status ≡ 0
+      → IsAcknowledgedByAnswers (after_answer before answer) (answer ∷ older)

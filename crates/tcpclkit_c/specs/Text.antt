@@ -60,7 +60,7 @@ data_words primary block content =
 
 -- The slice begins with the text, or with as much of it as fits. `written` is the number of these
 -- bytes, and the bytes after them are as they were.
-pub record HoldsText (text old slice : List ℕ) (written status : ℕ) : Type 0 where
+pub record ReturnsThisText (text old slice : List ℕ) (written status : ℕ) : Type 0 where
   pub front : HoldsPrefix slice text
   pub rest : LeavesRest old slice text
   pub count : written ≡ min (length text) (length slice)
@@ -69,4 +69,4 @@ pub record HoldsText (text old slice : List ℕ) (written status : ℕ) : Type 0
 -- the text, or TCPCLKIT_RANGE if there is none
 abbrev pub ReturnsText : Option (List ℕ) → (old slice : List ℕ) → (written status : ℕ) → Type 0
 ReturnsText None old slice written status = status ≡ 6
-ReturnsText (Some text) old slice written status = HoldsText text old slice written status
+ReturnsText (Some text) old slice written status = ReturnsThisText text old slice written status

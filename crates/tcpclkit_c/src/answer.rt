@@ -2,7 +2,7 @@
 
 ghost use Rattle.std.specs.Prelude.{◌≡◌, Some, None};
 ghost use Rattle.link_transfer_answer_judge.specs.declared.answers.{Answer.Answer, Sent.Sent};
-ghost use Rattle.tcpclkit_c.specs.Answer.{sent_by, answer_numbers, AnswerBy, IsAnswer, IsNoAnswer, ReturnsAnswer};
+ghost use Rattle.tcpclkit_c.specs.Answer.{sent_by, answer_numbers, IsAnswerOrNone, IsAnswer, IsNoAnswer, ReturnsAnswer};
 
 use link_ffi_numbers::fault::answer_code;
 use link_ffi_numbers::recording::Message;
@@ -43,7 +43,7 @@ fn sent_by(sent: &SentNumbers) -> Option<Sent>
 
 /// The answer that a message is, if it is one.
 fn answer_by(message: &Message) -> Option<Answer>
-    ensures { AnswerBy message.now result }
+    ensures { IsAnswerOrNone message.now result }
 {
     let fields = fields_by(message)?;
     Answer::of(fields)

@@ -9,7 +9,7 @@ ghost use Rattle.link_report_blocks.specs.Words.{report_names, words_text};
 ghost use Rattle.link_ffi_numbers.specs.Bundle.{eid_by};
 ghost use Rattle.link_ffi_numbers.specs.Named.{named_by};
 ghost use Rattle.tcpclkit_c.specs.EidText.{ReturnsEid};
-ghost use Rattle.tcpclkit_c.specs.Text.{answer_text, named_text, option_text, option_eid_text, reason_text_by, is_data_of, data_words, HoldsText, ReturnsText};
+ghost use Rattle.tcpclkit_c.specs.Text.{answer_text, named_text, option_text, option_eid_text, reason_text_by, is_data_of, data_words, ReturnsThisText, ReturnsText};
 
 use link_bundle_data::{DataKind, DataScan};
 use link_bundle_types::EidForm;
@@ -57,7 +57,7 @@ fn put_named(line: &mut Line, named: Named)
 
 /// Copies a text into the slice, as far as there is room. Returns `OK` or `TOO_SMALL`.
 fn give(text: &[u8], slice: &mut [u8], written: &mut u64) -> u32
-    ensures { HoldsText text.now slice.old slice.new written.new result }
+    ensures { ReturnsThisText text.now slice.old slice.new written.new result }
 {
     *written = text.len().min(slice.len()) as u64;
     if copy_front(slice, text) {
@@ -171,7 +171,7 @@ pub extern "C" fn tcpclkit_raw_write_report_reason_text(
     text: &mut [u8],
     written: &mut u64,
 ) -> u32
-    ensures { HoldsText (name_in report_names reason) text.old text.new written.new result }
+    ensures { ReturnsThisText (name_in report_names reason) text.old text.new written.new result }
 {
     give(report_reason_name(reason).as_bytes(), text, written)
 }
@@ -183,7 +183,7 @@ pub extern "C" fn tcpclkit_raw_write_block_type_text(
     text: &mut [u8],
     written: &mut u64,
 ) -> u32
-    ensures { HoldsText (type_name block_type) text.old text.new written.new result }
+    ensures { ReturnsThisText (type_name block_type) text.old text.new written.new result }
 {
     give(block_type_name(block_type).as_bytes(), text, written)
 }
@@ -238,7 +238,7 @@ pub extern "C" fn tcpclkit_raw_read_block_data(
     written: &mut u64,
 ) -> u32
     ensures text { is_data_of primary.now block.now (length content.now) ≡ true
-        → HoldsText (data_words primary.now block.now content.now) text.old text.new written.new result }
+        → ReturnsThisText (data_words primary.now block.now content.now) text.old text.new written.new result }
     ensures range { is_data_of primary.now block.now (length content.now) ≡ false
         → (result ≡ 6) × (text.new ≡ text.old) × (written.new ≡ written.old) }
 {

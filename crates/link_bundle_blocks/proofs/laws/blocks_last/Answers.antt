@@ -1,5 +1,5 @@
 use Rattle.link_bundle_blocks.proofs.Lying.{BlocksWithin-holds}
-use Rattle.link_bundle_blocks.proofs.Showing.{BlocksGrow-holds, NoBlocksAfterEnd-holds, BlockPlaced-holds}
+use Rattle.link_bundle_blocks.proofs.Showing.{BlocksGrow-holds, NoBlocksAfterEnd-holds, NextBlockIsCutOrLater-holds}
 use Rattle.link_bundle_blocks.proofs.laws.blocks_last.Goals as goal
 
 pub returns : goal.returns
@@ -7,5 +7,5 @@ returns c = record {
   grow = BlocksGrow-holds;
   end = NoBlocksAfterEnd-holds;
   within = BlocksWithin-holds;
-  placed = BlockPlaced-holds;
+  placed = NextBlockIsCutOrLater-holds;
 }

@@ -1,5 +1,5 @@
 use Rattle.link_bundle_blocks.proofs.Lengths.{FaultLasts-holds, TrailingLasts-holds}
-use Rattle.link_bundle_blocks.proofs.Payloads.{PayloadLasts-holds, PayloadPlaced-holds, PayloadEnds-holds}
+use Rattle.link_bundle_blocks.proofs.Payloads.{PayloadLasts-holds, SpanDeterminesPayload-holds, PayloadEnds-holds}
 use Rattle.link_bundle_blocks.proofs.laws.verdict_lasts.Goals as goal
 
 pub returns : goal.returns
@@ -7,6 +7,6 @@ returns c = record {
   fault = FaultLasts-holds;
   trailing = TrailingLasts-holds;
   payload = PayloadLasts-holds;
-  placed = PayloadPlaced-holds;
+  placed = SpanDeterminesPayload-holds;
   ends = PayloadEnds-holds;
 }
