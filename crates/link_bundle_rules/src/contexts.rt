@@ -10,7 +10,7 @@ impl BundleHistory {
     ghost use Rattle.link_bundle_rules.specs.History.{bundle_of};
     ghost use Rattle.link_bundle_rules.specs.Security.{may_protect_primary, primary_check, confidential_primary, security_flags, security_context, confidential_flags, confidential_context};
 
-    /// The rule of the primary block's check, if it is broken.
+    /// The rule `primary-check`, if it is broken.
     #[tactic(auto, unfolding(crate::specs::Security::primary_check))]
     pub(crate) fn primary_check(&self) -> Option<BundleRule>
         ensures { (long_head : Option ℕ) (payload_length : ℕ)
@@ -33,7 +33,7 @@ impl BundleHistory {
         security.iter().any(|block| block.may_protect_primary(self))
     }
 
-    /// The rule of encrypted primary blocks, if it is broken.
+    /// The rule `confidential-primary`, if a block confidentiality block breaks it.
     #[tactic(auto, unfolding(crate::specs::Security::confidential_primary))]
     pub(crate) fn confidential_primary(&self) -> Option<BundleRule>
         ensures { (long_head : Option ℕ) (payload_length : ℕ)
@@ -45,7 +45,7 @@ impl BundleHistory {
         )
     }
 
-    /// The rule of the flags of security contexts, if it is broken.
+    /// The rule `security-flags`, if the flags of a security context break it.
     #[tactic(auto, unfolding(crate::specs::Security::security_flags))]
     pub(crate) fn security_flags(&self) -> Option<BundleRule>
         ensures { (long_head : Option ℕ) (payload_length : ℕ)
@@ -57,7 +57,7 @@ impl BundleHistory {
         )
     }
 
-    /// The rule of security contexts, if it is broken.
+    /// The rule `security-context`, if the ID of a security context breaks it.
     #[tactic(auto, unfolding(crate::specs::Security::security_context))]
     pub(crate) fn security_context(&self) -> Option<BundleRule>
         ensures { (long_head : Option ℕ) (payload_length : ℕ)
@@ -69,7 +69,7 @@ impl BundleHistory {
         )
     }
 
-    /// The rule of the flags of block confidentiality blocks, if it is broken.
+    /// The rule `confidential-flags`, if a block confidentiality block breaks it.
     #[tactic(auto, unfolding(crate::specs::Security::confidential_flags))]
     pub(crate) fn confidential_flags(&self) -> Option<BundleRule>
         ensures { (long_head : Option ℕ) (payload_length : ℕ)
@@ -81,7 +81,7 @@ impl BundleHistory {
         )
     }
 
-    /// The rule of the contexts of block confidentiality blocks, if it is broken.
+    /// The rule `confidential-context`, if a block confidentiality block breaks it.
     #[tactic(auto, unfolding(crate::specs::Security::confidential_context))]
     pub(crate) fn confidential_context(&self) -> Option<BundleRule>
         ensures { (long_head : Option ℕ) (payload_length : ℕ)

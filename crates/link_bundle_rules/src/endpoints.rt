@@ -46,7 +46,7 @@ impl BundleHistory {
         first_found(self.blocks.as_slice(), |block| self.bad_name_of(block))
     }
 
-    /// The rule of dtn names, if it is broken.
+    /// The rule `dtn-name`, if an endpoint ID breaks it.
     #[tactic(auto, unfolding(crate::specs::Endpoints::dtn_name))]
     pub(crate) fn dtn_name(&self) -> Option<BundleRule>
         ensures { (long_head : Option ℕ) (payload_length : ℕ)
@@ -56,7 +56,7 @@ impl BundleHistory {
         Some(BundleRule::DtnName { of })
     }
 
-    /// The rule of sources that are no singletons, if it is broken.
+    /// The rule `source-node`, if the source breaks it.
     #[tactic(auto, unfolding(crate::specs::Endpoints::source_node))]
     pub(crate) fn source_node(&self) -> Option<BundleRule>
         ensures { (long_head : Option ℕ) (payload_length : ℕ)

@@ -151,7 +151,7 @@ impl BundleHistory {
     ghost use Rattle.link_bundle_rules.specs.History.{bundle_of};
     ghost use Rattle.link_bundle_rules.specs.Kept.{is_plain_block, counts_of};
 
-    /// The rule of bundle age blocks, if it is broken.
+    /// The rule `age` of bundle age blocks, if it is broken.
     #[tactic(auto, unfolding(crate::specs::Extensions::age))]
     pub(crate) fn age(&self, counts: Counts) -> Option<BundleRule>
         ensures { (long_head : Option ℕ) (payload_length : ℕ)
@@ -170,7 +170,7 @@ impl BundleHistory {
         None
     }
 
-    /// The rule of previous node blocks, if it is broken.
+    /// The rule `previous-node`, if the number of previous node blocks breaks it.
     #[tactic(auto, unfolding(crate::specs::Extensions::previous_node))]
     pub(crate) fn previous_node(&self, counts: Counts) -> Option<BundleRule>
         ensures { (long_head : Option ℕ) (payload_length : ℕ)
@@ -208,7 +208,7 @@ impl BundleHistory {
         Hops::of(self.first_readable(HOP_COUNT)?.data)
     }
 
-    /// The rule of hop count blocks, if it is broken.
+    /// The rule `hop-count`, if it is broken.
     ///
     /// `plain` is whether all blocks are plain. The hop limit of a plain block is good, so then
     /// only the number of hop count blocks can break the rule.
@@ -245,7 +245,7 @@ impl BundleHistory {
         self.first_hops()?.if_exceeded()
     }
 
-    /// The rule of block types, if it is broken.
+    /// The rule `block-type`, if a block breaks it.
     #[tactic(auto, unfolding(crate::specs::Extensions::block_type))]
     pub(crate) fn block_type(&self) -> Option<BundleRule>
         ensures { (long_head : Option ℕ) (payload_length : ℕ)
@@ -254,7 +254,7 @@ impl BundleHistory {
         first_found(self.blocks.as_slice(), |block| if_reserved(block))
     }
 
-    /// The rule of the data of extension blocks, if it is broken.
+    /// The rule `block-data`, if the data of a block breaks it.
     ///
     /// `plain` is whether all blocks are plain. Plain blocks do not break the rule, so then none is
     /// looked at.
@@ -273,7 +273,7 @@ impl BundleHistory {
         )
     }
 
-    /// The rule of data that this toolkit does not read, if it is broken.
+    /// The rule `data-not-read`, if the data of a block breaks it.
     ///
     /// `plain` is whether all blocks are plain. Plain blocks do not break the rule, so then none is
     /// looked at.

@@ -23,7 +23,7 @@ impl BundleHistory {
     ghost use Rattle.link_bundle_rules.specs.Fragments.{if_no_part, fragment, if_all, whole_fragment};
     ghost use Rattle.link_bundle_rules.specs.History.{bundle_of};
 
-    /// The rule of fragments, if a payload of `size` bytes breaks it.
+    /// The rule `fragment`, if a payload of `size` bytes breaks it.
     ///
     /// The result is the same for any `long_head`, the offset of the first head that is longer than
     /// it has to be.
@@ -53,7 +53,7 @@ impl BundleHistory {
         })
     }
 
-    /// The rule of fragments with the whole payload, if a payload of `size` bytes breaks it.
+    /// The rule `whole-fragment`, if a payload of `size` bytes breaks it.
     #[tactic(auto, unfolding(crate::specs::Fragments::whole_fragment))]
     pub(crate) fn whole_fragment(&self, size: u64) -> Option<BundleRule>
         ensures { (long_head : Option ℕ) → result ≡ whole_fragment (bundle_of self.now long_head size) }

@@ -86,7 +86,7 @@ impl BundleHistory {
         )
     }
 
-    /// The rule of long heads, if it is broken.
+    /// The rule `long-head`, if it is broken.
     ///
     /// `byte` is the offset of the first long head outside the data of blocks. The result is the
     /// same for any length of the payload.

@@ -50,9 +50,10 @@ impl BundleHistory {
         self.primary = PrimaryFacts::of(primary);
     }
 
-    /// Takes the next canonical block.
+    /// Takes the next canonical block. A block after 64 of them changes nothing.
     ///
-    /// Each good bundle meets two premises of the contract: 64 such blocks, and offsets of 64 bits.
+    /// The premises of the contract are that fewer than 64 canonical blocks came before, and that
+    /// offsets are below 2^64. Each good bundle meets them, since it has at most 64 such blocks.
     #[inline(always)]
     pub fn take(&mut self, read: &ReadBlockView<'_>)
         ensures { array_vec_len self.old.blocks < 64

@@ -33,7 +33,7 @@ impl BundleHistory {
         self.first_readable(PAYLOAD)
     }
 
-    /// The rule of malformed administrative records, if it is broken.
+    /// The rule `record`, if the administrative record breaks it.
     #[tactic(auto, unfolding(crate::specs::Records::administrative_record))]
     pub(crate) fn administrative_record(&self) -> Option<BundleRule>
         ensures { (long_head : Option ℕ) (payload_length : ℕ)
@@ -45,7 +45,7 @@ impl BundleHistory {
         }
     }
 
-    /// The rule of the types of administrative records, if it is broken.
+    /// The rule `record-type`, if the administrative record breaks it.
     #[tactic(auto, unfolding(crate::specs::Records::record_type))]
     pub(crate) fn record_type(&self) -> Option<BundleRule>
         ensures { (long_head : Option ℕ) (payload_length : ℕ)
@@ -66,7 +66,7 @@ impl BundleHistory {
         report_in(self.record_of()?.data)
     }
 
-    /// The rule of the times of a status report, if it is broken.
+    /// The rule `report-times`, if the status report breaks it.
     #[tactic(auto, unfolding(crate::specs::Records::report_times))]
     pub(crate) fn report_times(&self) -> Option<BundleRule>
         ensures { (long_head : Option ℕ) (payload_length : ℕ)
@@ -76,7 +76,7 @@ impl BundleHistory {
         (report.timed && report.untimed).then_some(BundleRule::ReportTimes)
     }
 
-    /// The rule of status reports that assert nothing, if it is broken.
+    /// The rule `report-empty`, if the status report breaks it.
     #[tactic(auto, unfolding(crate::specs::Records::report_empty))]
     pub(crate) fn report_empty(&self) -> Option<BundleRule>
         ensures { (long_head : Option ℕ) (payload_length : ℕ)
@@ -86,7 +86,7 @@ impl BundleHistory {
         (!report.timed && !report.untimed).then_some(BundleRule::ReportEmpty)
     }
 
-    /// The rule of the reasons of status reports, if it is broken.
+    /// The rule `report-reason`, if the status report breaks it.
     #[tactic(auto, unfolding(crate::specs::Records::report_reason))]
     pub(crate) fn report_reason(&self) -> Option<BundleRule>
         ensures { (long_head : Option ℕ) (payload_length : ℕ)
@@ -96,7 +96,7 @@ impl BundleHistory {
         (reason > LAST_REASON).then_some(BundleRule::ReportReason { reason })
     }
 
-    /// The rule of status reports about bundles without a source, if it is broken.
+    /// The rule `report-source`, if the status report breaks it.
     #[tactic(auto, unfolding(crate::specs::Records::report_source))]
     pub(crate) fn report_source(&self) -> Option<BundleRule>
         ensures { (long_head : Option ℕ) (payload_length : ℕ)

@@ -96,7 +96,7 @@ impl BundleHistory {
         ])
     }
 
-    /// The rule of the bundle's flags, if it is broken.
+    /// The rule `bundle-flags`, if the flags of the bundle break it.
     #[tactic(auto, unfolding(crate::specs::Flags::bundle_flags))]
     fn bundle_flags(&self) -> Option<BundleRule>
         ensures { (long_head : Option ℕ) (payload_length : ℕ)
@@ -106,7 +106,7 @@ impl BundleHistory {
         has_other_flags(BUNDLE_FLAGS, flags).then_some(BundleRule::BundleFlags { flags })
     }
 
-    /// The rule of bundles without a source, if it is broken.
+    /// The rule `anonymous` of bundles without a source, if it is broken.
     #[tactic(auto, unfolding(crate::specs::Flags::anonymous))]
     fn anonymous(&self) -> Option<BundleRule>
         ensures { (long_head : Option ℕ) (payload_length : ℕ)
@@ -117,7 +117,7 @@ impl BundleHistory {
         (self.primary.is_anonymous && is_wrong).then_some(BundleRule::Anonymous { flags })
     }
 
-    /// The rule of the reports that an administrative record requests, if it is broken.
+    /// The rule `record-reports`, if an administrative record breaks it.
     #[tactic(auto, unfolding(crate::specs::Flags::record_reports))]
     fn record_reports(&self) -> Option<BundleRule>
         ensures { (long_head : Option ℕ) (payload_length : ℕ)
@@ -128,7 +128,7 @@ impl BundleHistory {
         is_wrong.then_some(BundleRule::RecordReports { flags })
     }
 
-    /// The rule of blocks that request a status report, if it is broken.
+    /// The rule `block-reports`, if a block breaks it.
     ///
     /// `plain` is whether all blocks are plain. Plain blocks do not break the rule, so then none is
     /// looked at.
@@ -147,7 +147,7 @@ impl BundleHistory {
         first_found(self.blocks.as_slice(), |block| if_reporting(block))
     }
 
-    /// The rule of the flags of blocks, if it is broken.
+    /// The rule `block-flags`, if the flags of a block break it.
     ///
     /// `plain` is whether all blocks are plain. Plain blocks do not break the rule, so then none is
     /// looked at.

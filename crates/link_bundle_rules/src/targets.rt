@@ -197,7 +197,7 @@ impl BundleHistory {
         )
     }
 
-    /// The rule of targets that are no blocks, if it is broken. A fragment may lack blocks.
+    /// The rule `security-targets`, if a target is no block. A fragment may lack blocks.
     fn missing_target(&self) -> Option<BundleRule>
         ensures { result ≡ missing_target (bundle_of self.now None 0) }
     {
@@ -212,7 +212,7 @@ impl BundleHistory {
         })
     }
 
-    /// The rule of the targets of single security blocks, if it is broken.
+    /// The rule `security-targets`, if the targets of one security block break it.
     #[tactic(auto, unfolding(crate::specs::Targets::security_targets))]
     pub(crate) fn security_targets(&self) -> Option<BundleRule>
         ensures { (long_head : Option ℕ) (payload_length : ℕ)
@@ -225,7 +225,7 @@ impl BundleHistory {
         self.missing_target()
     }
 
-    /// The rule of targets that two blocks of a type have, if it is broken.
+    /// The rule `security-twice`, if a target of two security blocks of one type breaks it.
     #[tactic(auto, unfolding(crate::specs::Targets::security_twice))]
     pub(crate) fn security_twice(&self) -> Option<BundleRule>
         ensures { (long_head : Option ℕ) (payload_length : ℕ)
@@ -235,7 +235,7 @@ impl BundleHistory {
         Some(BundleRule::SecurityTwice { block, target })
     }
 
-    /// The rule of targets that blocks of both types have, if it is broken.
+    /// The rule `shared-target`, if a target of blocks of both types breaks it.
     #[tactic(auto, unfolding(crate::specs::Targets::shared_target))]
     pub(crate) fn shared_target(&self) -> Option<BundleRule>
         ensures { (long_head : Option ℕ) (payload_length : ℕ)
@@ -245,7 +245,7 @@ impl BundleHistory {
         Some(BundleRule::SharedTarget { block, target })
     }
 
-    /// The rule of security blocks that are targets of block integrity blocks, if it is broken.
+    /// The rule `integrity-target`, if a target of a block integrity block breaks it.
     #[tactic(auto, unfolding(crate::specs::Targets::integrity_target))]
     pub(crate) fn integrity_target(&self) -> Option<BundleRule>
         ensures { (long_head : Option ℕ) (payload_length : ℕ)
@@ -255,7 +255,7 @@ impl BundleHistory {
         Some(BundleRule::IntegrityTarget { block, target })
     }
 
-    /// The rule that no block confidentiality block is a target of one, if the rule is broken.
+    /// The rule `confidential-target`, if a target of a block confidentiality block breaks it.
     #[tactic(auto, unfolding(crate::specs::Targets::confidential_target))]
     pub(crate) fn confidential_target(&self) -> Option<BundleRule>
         ensures { (long_head : Option ℕ) (payload_length : ℕ)

@@ -17,8 +17,8 @@ pub record Transfer : Type 0 where
 abbrev pub closes : SegmentHead → List ℕ → Bool
 closes head content = is_end head.flags && (length content == head.length)
 
--- The transfers, with the data of a segment added to the latest. There always is one, since a
--- segment that continues no transfer is refused or stray.
+-- The transfers, with more data for the latest; `closed` is whether that one is closed then. There
+-- always is a latest one, since a segment that continues no transfer is refused or stray.
 abbrev pub continued : List Transfer → List ℕ → Bool → List Transfer
 continued [] content closed = []
 continued (latest ∷ earlier) content closed =

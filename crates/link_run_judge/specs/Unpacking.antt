@@ -41,7 +41,9 @@ parts_of wanted (latest ∷ earlier) = parts_of wanted earlier ++ part_of wanted
 
 -- ---- the report
 
--- a transfer that has a line and is not closed was abandoned
+-- The judgement on a transfer, which stands in its line. A transfer gets its line when it is closed
+-- or abandoned, so one that is not closed was abandoned. A transfer that is left open at the end of
+-- the stream counts as abandoned.
 abbrev pub judgement_of : Transfer → Judgement
 judgement_of transfer =
     judged_transfer (not transfer.closed) (announced_of transfer.first.items.items)
@@ -71,7 +73,7 @@ is_good (LengthDiffers announced) = false
 is_good (Bad fault offset) = false
 is_good (Good info) = true
 
--- the line of a head that is not in order
+-- the line of a head that is not in order, at this offset; a head without a fault has no text
 abbrev pub order_line : (offset : ℕ) → Option OrderFault → List ℕ
 order_line offset None = []
 order_line offset (Some fault) = fault_text (Order offset fault)
@@ -102,7 +104,8 @@ good_due false transfers = true
 good_due true [] = true
 good_due true (latest ∷ earlier) = is_good (judgement_of latest)
 
--- the line of the latest transfer is written if it is due
+-- If the line of the latest transfer is due, it is written, and not all is good if that transfer is
+-- not. Else nothing changes.
 abbrev pub with_line : Wanted → (due : Bool) → Told → Told
 with_line wanted due told = record {
   transfers = told.transfers;
@@ -124,6 +127,7 @@ with_order head told = record {
   good = told.good && not (is_some head.fault);
 }
 
+-- what was told, with the transfers after one more head, whose data comes later
 abbrev pub with_transfers : Head → Told → Told
 with_transfers head told =
     record told { transfers = transfers_at head.turn told.transfers head.message }
@@ -140,7 +144,8 @@ abbrev pub told_more : Told → List ℕ → (closed : Bool) → Told
 told_more told content closed =
     record told { transfers = continued told.transfers content closed }
 
--- one more event
+-- What was told after one more event. `Whole` closes the latest transfer. `LeftOpen` does not, so
+-- its line says that it was abandoned.
 abbrev pub told_event : Wanted → Told → WalkEvent → Told
 told_event wanted told (ContactHeader contact) = told
 told_event wanted told (MessageHead head) = told_head wanted told head
@@ -148,6 +153,7 @@ told_event wanted told (Data byte) = told_more told (byte ∷ []) false
 told_event wanted told Whole = with_line wanted true (told_more told [] true)
 told_event wanted told LeftOpen = with_line wanted true told
 
+-- what was told of these events, from the first
 unfoldable pub told_after : Wanted → List WalkEvent → Told
 told_after wanted events = fold (told_event wanted) none_told events
 

@@ -55,7 +55,8 @@ impl TransferJudge {
         }
     }
 
-    /// Begins the transfer whose first segment has this head.
+    /// Begins the transfer whose first segment has this head. A message of another kind changes
+    /// nothing.
     ///
     /// The contract holds for any `closed`: a judge does not keep whether its transfer is closed.
     pub fn begin(&mut self, message: &MessageBuffer)
@@ -97,7 +98,8 @@ impl TransferJudge {
         }
     }
 
-    /// The judgement on the transfer, which was `abandoned`, or else is closed.
+    /// The judgement on the transfer. `abandoned` is whether the transfer was abandoned; false
+    /// means that it is closed.
     #[inline(always)]
     pub fn judgement(&self, abandoned: bool) -> JudgementView<'_>
         ensures judged { (transfer : Transfer) → IsTransferJudgeAt self.now transfer

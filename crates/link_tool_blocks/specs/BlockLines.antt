@@ -5,7 +5,8 @@ use Rattle.link_bundle_blocks.specs.Bundle.{blocks_in}
 use Rattle.link_report_blocks.specs.Blocks.{primary_text, block_text}
 use Rattle.link_bundle_data_in_pieces.specs.Found.{found_in, flags_after}
 
--- the line of a block; the first word is `id`
+-- The line of a block, whose first word is `id`. `flags` are those of the bundle's primary block.
+-- The line of the primary block itself does not use them.
 abbrev pub block_line : (id flags : ℕ) → (content : List ℕ) → Block → List ℕ
 block_line id flags content (PrimaryOf primary check end) = primary_text id primary check end
 block_line id flags content (CanonicalOf block) = block_text id block (found_in flags content block)

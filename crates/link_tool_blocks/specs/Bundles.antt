@@ -21,7 +21,8 @@ bundle_lines number (bundle ∷ more) = whole_lines number bundle ++ bundle_line
 
 -- What `blocks --bundles` says of bundles, and of the bytes `begun` of the next one. For the bytes
 -- `begun`, the output has the lines of the blocks that are whole in them, even if a fault follows
--- these blocks. The only line of the report is the line of the fault that stops the run.
+-- these blocks. The only line of the report is the line of the fault that stops the run. `good` is
+-- always true, since a bundle that is not good stops the run.
 abbrev pub bundle_blocks_telling : BundleTelling
 bundle_blocks_telling = record {
   limit = bundle_limit;

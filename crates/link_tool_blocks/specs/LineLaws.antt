@@ -12,6 +12,7 @@ use Rattle.link_tool_blocks.specs.BlockLines.{block_line, lines_from, block_line
 
 -- ---- whole blocks
 
+-- a block that lies in the content keeps its line
 line_grown : (id flags : ℕ) (content more : List ℕ) (block : Block)
     → LiesWithin (length content) block
     → block_line id flags (content ++ more) block ≡ block_line id flags content block
@@ -19,6 +20,7 @@ line_grown id flags content more (PrimaryOf primary check end) within = refl
 line_grown id flags content more (CanonicalOf block) within =
     simp (data_grown content more block within.0)
 
+-- blocks that all lie in the content keep their lines
 lines_grown : (id flags : ℕ) (content more : List ℕ) (blocks : List Block)
     → All (LiesWithin (length content)) blocks
     → lines_from id flags (content ++ more) blocks ≡ lines_from id flags content blocks
@@ -31,6 +33,7 @@ lines_grown id flags content more (block ∷ rest) within =
       lines_grown id (flags_after flags block) content more rest others,
     ) refl
 
+-- the lines of two lists of blocks, the first before the second
 lines_both : (id flags : ℕ) (content : List ℕ) (first second : List Block)
     → lines_from id flags content (first ++ second)
     ≡ lines_from id flags content first
@@ -55,6 +58,7 @@ lines_more id content more new grown =
       lines_grown id 0 content more (blocks_in content) (BlocksWithin-holds content),
     ) refl
 
+-- more bytes change no line, and only add lines at the end
 pub lines_grow : (id : ℕ) (content more : List ℕ) → SaysMore (block_lines id) content more
 lines_grow id content more =
     let grows = BlocksGrow-holds content more in
@@ -70,6 +74,7 @@ lines_same id content more same =
     lines_more id content more [] (same ∙ sym (append-nil (blocks_in content)))
     ∙ append-nil (block_lines id content)
 
+-- without bytes there are no lines
 pub no_lines : (id : ℕ) → block_lines id [] ≡ []
 unfolding block_lines
 no_lines id = ap (lines_from id 0 []) no_blocks

@@ -16,7 +16,8 @@ end_due only true [] = []
 end_due only true (latest ∷ earlier) =
     if is_selected only latest.first.id then end_line latest else []
 
--- the latest of these transfers was judged so far, and `is_open` is whether it is open
+-- There is a latest transfer, and `latest` has taken exactly its data so far. `is_open` is whether
+-- the transfer is not closed.
 pub record IsTransferBlocksAtLatest (only : Option ℕ) (latest : TransferBlocks) (is_open : Bool)
     (transfers : List Transfer) : Type 0 where
   pub transfer : Transfer
@@ -25,7 +26,8 @@ pub record IsTransferBlocksAtLatest (only : Option ℕ) (latest : TransferBlocks
   pub opened : is_open ≡ not transfer.closed
   pub shows : IsTransferBlocksAt only latest transfer
 
--- the lister has had exactly these events; while no transfer is open, its judge does not matter
+-- The lister has had exactly these events. While no transfer is open, nothing of `latest` matters
+-- but the size of its judge.
 pub record IsBlockListerAt (options : BlockOptions) (now : BlockLister) (events : List WalkEvent)
     : Type 0 where
   pub size : now.latest.judge.size ≤ data_size events

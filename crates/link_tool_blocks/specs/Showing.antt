@@ -34,14 +34,15 @@ lines_of only is_open (latest ∷ earlier) =
 
 -- ---- the report
 
--- the line of a head that is not in order
+-- the line of a head that is not in order; no other event has one
 abbrev pub order_line_of : WalkEvent → List ℕ
 order_line_of (MessageHead head) = order_line head.offset head.fault
 order_line_of _ = []
 
 -- ---- a stream
 
--- the options of `unpack` with the same transfers and the same status
+-- the options with which `unpack` selects the same transfers and has the same status; `payload`
+-- changes neither
 abbrev pub unpacking_by : BlockOptions → Wanted
 unpacking_by options =
     record { only = options.only; payload = false; keep_going = options.keep_going }

@@ -14,7 +14,7 @@ pub record IsBundleCheckerAt (must : Bool) (now : BundleChecker) (so_far : SoFar
   pub reading : IsBundleReaderAt now.bundle so_far.begun
   pub good : now.good ≡ none_counts must (broken_bundles 0 0 so_far.bundles)
 
--- the bundle that has begun is whole, and has these fields
+-- what has come once the bundle that has begun is whole, and has these fields
 abbrev pub with_end : SoFar → BundleInfo → SoFar
 with_end before info =
     between (before.bundles ++ record { bytes = before.begun; info = info } ∷ [])

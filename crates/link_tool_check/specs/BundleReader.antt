@@ -16,6 +16,7 @@ pub record IsBundleHistoryAt (history : BundleHistory) (bundle : ReadBundle) (co
     : Type 0 where
   pub same : bundle_of history None 0 ≡ bundle
   pub flags : bundle.primary.flags ≡ fold flags_after 0 (blocks_in content)
+  -- the primary block is not among `bundle.blocks`
   pub few : suc (length bundle.blocks) ≤ length (blocks_in content)
 
 -- `begun` is whether the primary block is whole in the content, so that there is a bundle. If it

@@ -9,7 +9,8 @@ use Rattle.link_bundle_rules.specs.BundleRules.{broken_bundle_rules}
 use Rattle.link_bundle_rules.specs.ReadBundle.{ReadBundle, begun, with_block}
 use Rattle.link_bundle_rules.specs.declared.rule.BundleRule.{BundleRule}
 
--- the bundle with one more block, whose data lies in the content; the primary block begins it
+-- The bundle with one more block, whose data lies in the content. The primary block begins the
+-- bundle. Before it there is none.
 abbrev pub with_next : (content : List ℕ) → Option ReadBundle → Block → Option ReadBundle
 with_next content before (PrimaryOf primary check end) = Some (begun primary check)
 with_next content before (CanonicalOf block) = option_map
@@ -17,7 +18,7 @@ with_next content before (CanonicalOf block) = option_map
     (long_head_in bundle.primary.flags content block))
     before
 
--- the whole blocks of a bundle, with what their data says
+-- the whole blocks of a bundle, with what their data says; `None` before the primary block is whole
 unfoldable pub read_bundle : (content : List ℕ) → Option ReadBundle
 read_bundle content = fold (with_next content) None (blocks_in content)
 
@@ -28,6 +29,6 @@ rules_of content payload_length None = []
 rules_of content payload_length (Some bundle) = broken_bundle_rules
     (record bundle { long_head = first_long content; payload_length = payload_length })
 
--- the rules that a good bundle breaks, whose fields are `info`
+-- the rules that a good bundle breaks; `info` has its fields
 unfoldable pub bundle_rules : (content : List ℕ) → (info : BundleInfo) → List BundleRule
 bundle_rules content info = rules_of content info.payload (read_bundle content)

@@ -30,6 +30,7 @@ pub record IsCheckedTransferAtLatest (now : CheckedTransfer) (latest : Option Be
   pub is : latest ≡ Some begun
   pub checks : IsCheckedTransferAt now begun
 
+-- what `check` keeps of these events, from the first
 abbrev pub kept_of : CheckOptions → List WalkEvent → Kept
 kept_of options events = kept_after (checking options) none_kept events
 

@@ -31,6 +31,7 @@ pub record Begun : Type 0 where
   pub first : SegmentHead
   pub content : List ℕ
 
+-- a list with the value, or the empty list for `None`
 abbrev pub optional : {A : Type 0} → Option A → List A
 optional None = []
 optional (Some value) = value ∷ []
@@ -55,7 +56,8 @@ closed_rules begun =
 abbrev pub open_rules : Begun → List BrokenRule
 open_rules begun = Transfer begun.first.id (Unfinished (length begun.content)) ∷ []
 
--- the rules that the latest transfer breaks, at the offset of its first segment
+-- what `rules` says that the latest transfer breaks, at the offset of its first segment; before the
+-- first transfer, nothing
 abbrev pub rules_at : (Begun → List BrokenRule) → Option Begun → List RuleText
 rules_at rules None = []
 rules_at rules (Some begun) = at_offset begun.offset (rules begun)
@@ -64,6 +66,7 @@ rules_at rules (Some begun) = at_offset begun.offset (rules begun)
 
 -- what is kept of the events so far
 pub record Kept : Type 0 where
+  -- the heads of all messages so far, in order
   pub heads : List HeadWithJudgement
   -- the transfer that began last
   pub latest : Option Begun
@@ -73,6 +76,7 @@ pub record Kept : Type 0 where
 abbrev pub none_kept : Kept
 none_kept = record { heads = []; latest = None; good = true }
 
+-- a head as the rules of messages need it: without its offset
 abbrev pub judged : Head → HeadWithJudgement
 judged head = record { message = head.message; fault = head.fault; turn = head.turn }
 
@@ -106,10 +110,12 @@ broken_by options kept (Data byte) = []
 broken_by options kept Whole = rules_at closed_rules kept.latest
 broken_by options kept LeftOpen = rules_at open_rules kept.latest
 
+-- the heads after one more event; only a message adds one, at the end
 abbrev pub heads_with : List HeadWithJudgement → WalkEvent → List HeadWithJudgement
 heads_with heads (MessageHead head) = heads ++ judged head ∷ []
 heads_with heads _ = heads
 
+-- the latest transfer after one more event, which may begin a transfer or add a byte
 abbrev pub latest_with : Option Begun → WalkEvent → Option Begun
 latest_with latest (MessageHead head) = begun_by head latest
 latest_with latest (Data byte) = option_map (with_bytes (byte ∷ [])) latest
@@ -125,6 +131,7 @@ kept_with options kept event = record {
 
 -- ---- a stream
 
+-- what `check` keeps of events, and the lines that it writes for each
 abbrev pub checking : CheckOptions → Keeping Kept
 checking options = record {
   start = none_kept;

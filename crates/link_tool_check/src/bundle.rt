@@ -71,7 +71,8 @@ impl BlockConsumer for KeptBlocks {
         (refl, history_same before more kept.begun kept.history same) };
 }
 
-/// Adds a whole block to a history. The reader has read its data, if such data is read.
+/// Adds a whole block to a history. The reader has read the block's data, if data of its kind is
+/// read.
 #[inline(always)]
 fn add(history: &mut BundleHistory, block: &CanonicalBlock, reader: &DataReader)
     requires { read_size reader.now < 2 ^ 63 }
@@ -176,6 +177,7 @@ impl BundleReader {
     {
         self.heads.take(piece);
         self.prefix.take(piece);
+        // The number 0 is not used, since no line is written.
         tell_piece(
             0,
             before,
@@ -226,7 +228,8 @@ impl BundleReader {
         self.heads.unread(self.prefix.is_tagged())
     }
 
-    /// Whether the bundle is known to break no rule, if it is good and whole.
+    /// Whether the bundle is known to break no rule, if it is good and whole. If it returns false,
+    /// the bundle may break rules or not.
     #[inline(always)]
     fn keeps_rules(&self) -> bool
         ensures { (content : List ℕ) (info : BundleInfo) → IsBundleReaderAt self.now content

@@ -45,8 +45,8 @@ impl BundleChecker {
         }
     }
 
-    /// Writes the lines of the rules that the current bundle, which is whole, breaks. Then begins
-    /// the next one.
+    /// The current bundle is whole. Writes the lines of the rules that it breaks, and begins the
+    /// next one.
     #[inline(never)]
     fn end_bundle<W: OutDevice, E: OutDevice>(
         &mut self,

@@ -89,6 +89,8 @@ impl Consumer for Checker {
                     &mut self.good,
                 )
             }
+            // The data is taken before the head is judged. This does not show, since taking data
+            // writes nothing.
             EventView::Inner { head, bytes } => {
                 if let Err(fault) = self.latest.take(bytes, writers) {
                     return Err(fault);
@@ -251,7 +253,8 @@ fn write_broken<W: OutDevice, E: OutDevice>(
     write_rules(options.must, offset, (), rules.as_slice(), writers, good)
 }
 
-/// Writes the lines of the latest transfer, if they are `due`: the transfer is closed now.
+/// Writes the lines of the rules that the latest transfer breaks, if they are `due`: the transfer
+/// is closed now.
 #[inline(always)]
 fn close<W: OutDevice, E: OutDevice>(
     must: bool,

@@ -35,7 +35,8 @@ const NO_OPENING: Opening = Opening {
     single: false,
 };
 
-/// What the rules of a transfer's length need of its first segment, which has this head.
+/// What the rules of a transfer's length need of its first segment, which has this head. For a
+/// message of another kind it is `NO_OPENING`.
 fn opening_of(message: &MessageBuffer) -> Opening
     requires { SegmentTotalsFit message.now }
     ensures { (first : SegmentHead) → message_of message.now ≡ Message.Segment first
@@ -75,8 +76,8 @@ impl CheckedTransfer {
 
     /// Begins the transfer whose first segment has this head.
     ///
-    /// A head that is no segment leaves the judge as it is. By the clause `size`, the size of the
-    /// data read never grows here, so a bound on it still holds.
+    /// A head that is no segment leaves the judge as it is. By the clause `size`, the judge's size
+    /// never grows here, so a bound on it still holds.
     pub(crate) fn begin(&mut self, head: &HeadView<'_>)
         requires { SegmentTotalsFit head.now.message.now }
         ensures follows { (first : SegmentHead) → message_of head.now.message.now

@@ -34,7 +34,7 @@ number_in limit name rows = option_and_then (number_below limit) (one_of name ro
 unfoldable pub number_of : (limit : ℕ) → (name : Text) → List Row → ℕ
 number_of limit name rows = unwrap_or (number_in limit name rows) 0
 
--- whether the flag was given
+-- whether the flag was given; a flag that was given has the value `true`
 unfoldable pub is_set : (name : Text) → List Row → Bool
 is_set name rows = option_map_or (λ text. bytes_eq text (codes "true")) (first_of name rows) false
 
@@ -62,23 +62,27 @@ limits_bundles rows = is_set (codes "bundles") rows && has_peer_limit rows
 
 -- ---- the invocation
 
+-- these are the options of `unpack`, by its matches
 pub record IsUnpackOptions (rows : List Row) (wanted : Wanted) : Type 0 where
   pub only : wanted.only ≡ number_in (2 ^ 64) (codes "transfer") rows
   pub payload : wanted.payload ≡ is_set (codes "payload") rows
   pub keep_going : wanted.keep_going ≡ is_set (codes "keep-going") rows
 
+-- these are the options of `blocks` for a recording, by its matches
 pub record IsBlockOptions (rows : List Row) (options : BlockOptions) : Type 0 where
   pub recording : is_set (codes "bundles") rows ≡ false
   pub only : options.only ≡ number_in (2 ^ 64) (codes "transfer") rows
   pub keep_going : options.keep_going ≡ is_set (codes "keep-going") rows
 
+-- these are the options of `check` for a recording, by its matches
 pub record IsCheckOptions (rows : List Row) (options : CheckOptions) : Type 0 where
   pub recording : is_set (codes "bundles") rows ≡ false
   pub must : options.must ≡ is_set (codes "must") rows
   pub segment : options.peer.segment ≡ number_in (2 ^ 64) (codes "peer-segment") rows
   pub transfer : options.peer.transfer ≡ number_in (2 ^ 64) (codes "peer-transfer") rows
 
--- `max` and `min` change no number that `clap` takes, because the table has the same bounds.
+-- These are the options of `pack`, by its matches. `max` and `min` change no number that `clap`
+-- takes, because the table has the same bounds.
 pub record IsPackOptions (rows : List Row) (packing : PackOptions) : Type 0 where
   pub node : packing.node.items ≡ text_of (codes "node") rows
   pub keepalive : packing.keepalive ≡ number_of (2 ^ 16) (codes "keepalive") rows

@@ -6,6 +6,7 @@ use Rattle.link_tools_command.specs.Usage.{is_request, limits_bundles_of, mixes_
 use Rattle.link_tools_command.specs.declared.usage.UsageFault.{UsageFault}
 use Rattle.link_tools_command.specs.declared.usage.UsageFault.TheVariants.{Help, Words, NodeTooLong, MixedInputs, LimitedBundles, Memory}
 
+-- this is the name of one of the five tools
 abbrev pub IsToolName : Text → Type 0
 IsToolName name = (name ≡ codes "list")
     ⊎ ((name ≡ codes "unpack")
@@ -23,7 +24,7 @@ IsToolFault tool fault = ((fault ≡ NodeTooLong) × (1024 < length (node_of too
     ⊎ (((fault ≡ LimitedBundles) × (limits_bundles_of tool ≡ true)) ⊎ (fault ≡ Memory)))
 
 -- Whether a fault may be returned for an error of `clap` of this kind. `Memory` may be returned for
--- any kind.
+-- any kind, and the other faults for none.
 abbrev pub IsFaultForKind : ErrorKind → UsageFault → Type 0
 IsFaultForKind kind (Help text) = is_request kind ≡ true
 IsFaultForKind kind (Words text) = (is_request kind ≡ false) × (kind ≡ OutOfMemory → ⊥)

@@ -7,9 +7,11 @@ use Rattle.clap.specs.declared.builder.value_parser.ValueParser.TheVariants.{Sig
 
 -- ---- ranges
 
+-- a number of 16 bits, whose bounds `clap` has as signed numbers
 abbrev pub any_u16 : ValueParser
 any_u16 = Signed (pos 0) (pos 65535)
 
+-- a number of 64 bits
 abbrev pub any_u64 : ValueParser
 any_u64 = Unsigned 0 18446744073709551615
 
@@ -43,9 +45,11 @@ file = record (new_rule (codes "file")) { value_names = 1 }
 
 -- ---- the tools
 
+-- a tool with these arguments
 abbrev pub tool : (name : Text) → List Rule → Shape
 tool name rules = record (new_shape name) { rules = rules }
 
+-- the words that `list` takes; the next four definitions are about the other tools
 unfoldable pub list_words : Shape
 list_words = tool (codes "list") (file ∷ [])
 
@@ -97,6 +101,7 @@ program = record (new_shape (codes "tcpclkit")) {
   subcommand_required = true;
 }
 
+-- all words that the program takes: its own, and then those of its tools
 unfoldable pub table : App
 table =
     record {

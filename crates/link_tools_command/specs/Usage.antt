@@ -17,7 +17,7 @@ is_request DisplayHelp = true
 is_request DisplayVersion = true
 is_request _ = false
 
--- `clap` finds an error in the words for whose kind `is_kind` returns `expected`
+-- `clap` finds an error in the words, and `is_kind` returns `expected` for its kind
 abbrev pub HasErrorOf : (is_kind : ErrorKind → Bool) → (expected : Bool) → (words : List Text)
     → Type 0
 HasErrorOf is_kind expected words =
@@ -53,6 +53,7 @@ IsFaultOf words Memory = ⊤
 
 -- ---- the end of the program
 
+-- the exit status after this fault
 abbrev pub usage_status : UsageFault → ℕ
 usage_status (Help text) = 0
 usage_status (Words text) = 2

@@ -480,24 +480,28 @@ fn number<'a>(alloc: Global, name: &'a str, range: ValueParser<'a>, help: &'a st
     option(alloc, name, "N", help).value_parser(range)
 }
 
+/// The range of the numbers of 16 bits.
 fn any_u16<'a>() -> ValueParser<'a>
     ensures { result ≡ any_u16 }
 {
     value_parser!(u16)
 }
 
+/// The range of the numbers of 64 bits.
 fn any_u64<'a>() -> ValueParser<'a>
     ensures { result ≡ any_u64 }
 {
     value_parser!(u64)
 }
 
+/// The range of the numbers of 64 bits but 0.
 fn one_or_more<'a>() -> ValueParser<'a>
     ensures { result ≡ one_or_more }
 {
     value_parser!(u64).range(1..)
 }
 
+/// The range from 0 to 1048576, both included.
 fn up_to_1048576<'a>() -> ValueParser<'a>
     ensures { result ≡ up_to_1048576 }
 {

@@ -54,6 +54,7 @@ fn invocation(alloc: Global, matches: &ArgMatches<'_>) -> Result<Invocation, Usa
 {
     match matches.subcommand() {
         Some((name, tool)) => invocation_of(alloc, name, tool),
+        // This never occurs: `clap` refuses words without a tool.
         None => Err(UsageFault::Memory),
     }
 }
@@ -85,6 +86,7 @@ fn options_of(name: &str, tool: &ArgMatches<'_>) -> Result<Options, UsageFault>
             Some(options) => Ok(Options::Pack(options)),
             None => Err(UsageFault::NodeTooLong),
         },
+        // The only other name is `list`.
         _ => Ok(Options::List),
     }
 }
@@ -190,14 +192,15 @@ fn node<'a>(tool: &ArgMatches<'a>) -> &'a str
     text(tool, "node").unwrap_or("")
 }
 
-/// The value of `--keepalive`, in seconds.
+/// The value of `--keepalive`, in seconds. The option has a default, so the 0 is not used.
 fn keepalive(tool: &ArgMatches<'_>) -> u16
     ensures { result ≡ number_of (2 ^ 16) (codes "keepalive") (rows_of (found_of tool.now)) }
 {
     tool.get_one::<u16>("keepalive").unwrap_or(0)
 }
 
-/// The value of a numeric option. It has a default, so the matches always have a value.
+/// The value of a numeric option that has a default. So the matches always have a value, and the 0
+/// is not used.
 #[tactic(auto, unfolding(crate::specs::Invoked::number_of))]
 fn number_of(tool: &ArgMatches<'_>, name: &str) -> u64
     ensures { result ≡ number_of (2 ^ 64) name.now (rows_of (found_of tool.now)) }
@@ -232,7 +235,7 @@ fn text<'a>(tool: &ArgMatches<'a>, name: &str) -> Option<&'a str>
     tool.get_str(name)
 }
 
-/// The fault for an error of `clap`.
+/// The fault for an error of `clap`. It is also `Memory` if there is no memory for its text.
 fn usage_fault(alloc: Global, error: &Error) -> UsageFault
     ensures kind { IsFaultForKind (kind_of error.now) result }
     ensures memory { kind_of error.now ≡ ErrorKind.OutOfMemory → result ≡ UsageFault.Memory }

@@ -13,6 +13,7 @@ answer_of (fields.Ack flags id size) = Some (Ack flags id size)
 answer_of (fields.Refuse reason id) = Some (Refuse reason id)
 answer_of _ = None
 
+-- the transfer ID of an answer
 abbrev pub id_of : Answer → ℕ
 id_of (Ack flags id size) = id
 id_of (Refuse reason id) = id
@@ -27,28 +28,32 @@ ack_fault sent flags size =
     else if is_end flags && not (sent.whole && (size == sent.length)) then Some EndTooEarly
     else None
 
+-- what is wrong with an answer that has the ID of this transfer; nothing is wrong with an
+-- XFER_REFUSE
 abbrev pub fault_by : Sent → Answer → Option AnswerFault
 fault_by sent (Ack flags id size) = ack_fault sent flags size
 fault_by sent (Refuse reason id) = None
 
--- why an answer is none to what was sent of this transfer
+-- what is wrong with an answer to what was sent of this transfer, or `None`
 unfoldable pub answer_fault : Sent → Answer → Option AnswerFault
 answer_fault sent answer =
     if id_of answer == sent.id then fault_by sent answer else Some OtherTransfer
 
+-- the result of a judgement that found this fault, or none
 abbrev pub judged_by : Option AnswerFault → Result (Unit {0}) AnswerFault
 judged_by None = Ok tt
 judged_by (Some fault) = Err fault
 
+-- the result of judging an answer: `Ok` if it is accepted, and else its fault
 abbrev pub judged_answer : Sent → Answer → Result (Unit {0}) AnswerFault
 judged_answer sent answer = judged_by (answer_fault sent answer)
 
--- what was sent, after an answer that was accepted
+-- what was sent, after an answer that was accepted: an XFER_ACK sets the acknowledged length
 abbrev pub with_answer : Sent → Answer → Sent
 with_answer sent (Ack flags id size) = record sent { acknowledged = size }
 with_answer sent (Refuse reason id) = sent
 
--- an answer that is refused changes nothing
+-- what was sent, after an answer was judged: an answer with a fault changes nothing
 abbrev pub after_answer : Sent → Answer → Sent
 after_answer sent answer =
     if is_none (answer_fault sent answer) then with_answer sent answer else sent
@@ -57,12 +62,13 @@ after_answer sent answer =
 abbrev pub nothing_sent : (id : ℕ) → Sent
 nothing_sent id = record { id = id; length = 0; whole = false; acknowledged = 0 }
 
--- the length that was acknowledged last, after these answers, the newest first
+-- the length in the last XFER_ACK of these answers, the newest first, or 0 if there is none
 unfoldable pub acknowledged_by : List Answer → ℕ
 acknowledged_by [] = 0
 acknowledged_by (Ack flags id size ∷ older) = size
 acknowledged_by (Refuse reason id ∷ older) = acknowledged_by older
 
--- What was sent, with exactly these answers accepted, the newest first.
+-- The acknowledged length is the one in the last XFER_ACK of these answers, the newest first, or 0
+-- if there is none. The other fields may be any.
 pub record IsAcknowledgedByAnswers (sent : Sent) (answers : List Answer) : Type 0 where
   pub acknowledged : sent.acknowledged ≡ acknowledged_by answers

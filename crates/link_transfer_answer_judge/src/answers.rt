@@ -3,7 +3,7 @@
 use link_wire::{END, Fields};
 use thiserror::Error;
 
-/// A message that answers a segment of the peer.
+/// A message of the peer that answers a segment.
 #[derive(Clone, Copy, Debug, PartialEq, Eq)]
 pub enum Answer {
     /// XFER_ACK (RFC 9174 section 5.2.3): `length` bytes of the transfer have been received.
@@ -16,7 +16,8 @@ impl Answer {
     ghost use Rattle.std.specs.Prelude.{◌≡◌};
     ghost use Rattle.link_transfer_answer_judge.specs.Answers.{answer_of};
 
-    /// The answer with these fields, if they are those of one.
+    /// The answer with these fields, or `None` if they are neither those of an XFER_ACK nor those
+    /// of an XFER_REFUSE.
     pub fn of(fields: Fields) -> Option<Answer>
         ensures { result ≡ answer_of fields }
     {
@@ -77,7 +78,7 @@ impl Sent {
         }
     }
 
-    /// What is wrong with an XFER_ACK.
+    /// What is wrong with an XFER_ACK that has the ID of this transfer, or `None`.
     fn ack_fault(&self, flags: u8, length: u64) -> Option<AnswerFault>
         ensures { result ≡ ack_fault self.now flags length }
     {
@@ -93,9 +94,10 @@ impl Sent {
         None
     }
 
-    /// Judges the next answer, and counts it if it is accepted.
+    /// Judges the next answer. An XFER_ACK that is accepted sets the acknowledged length.
     ///
-    /// An answer that is refused changes nothing.
+    /// An XFER_REFUSE of this transfer is always accepted, and changes nothing. An answer with a
+    /// fault changes nothing either.
     #[tactic(auto, unfolding(crate::specs::Answers::answer_fault, crate::specs::Answers::acknowledged_by))]
     pub fn judge(&mut self, answer: Answer) -> Result<(), AnswerFault>
         ensures judged { result ≡ judged_answer self.old answer }

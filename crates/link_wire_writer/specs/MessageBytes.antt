@@ -8,8 +8,8 @@ use Rattle.link_wire.specs.declared.message.{ListOf.ListOf, ListOf.TheVariants.{
 use Rattle.link_wire.specs.declared.message.Fields.{Fields}
 use Rattle.link_wire.specs.declared.message.Fields.TheVariants.{SessInit, Segment, Ack, Refuse, Keepalive, SessTerm, MsgReject}
 
--- `node` are the bytes of a node ID, and `items` those of the items of an extension list. A message
--- that has none of them is written with none.
+-- `node` are the bytes of a node ID, and `items` those of the items of an extension list. `node` is
+-- empty for a message without a node ID, and `items` for a message without a list.
 
 -- a node ID (section 4.6): its length, and its bytes
 abbrev pub node_bytes : (node : List ℕ) → List ℕ
@@ -45,7 +45,7 @@ item_bytes flags kind value = be 1 flags ++ be 2 kind ++ be 2 (length value) ++ 
 
 -- ---- what is written: nothing that a reader of this toolkit refuses
 
--- whether these bytes are items that fill them, at most 64 in at most 65,536 bytes
+-- whether these bytes are extension items and nothing else: at most 64, in at most 65,536 bytes
 abbrev pub are_items : (owner : ListOf) (items : List ℕ) → Bool
 are_items owner items =
     nat_le (length items) longest_list && is_ok (items_of owner (length items) items)
@@ -53,7 +53,7 @@ are_items owner items =
 abbrev pub is_empty : List ℕ → Bool
 is_empty bytes = length bytes == 0
 
--- whether the node ID and the items are those of a message with these fields
+-- whether a message with these fields may have this node ID and these items
 unfoldable pub is_writable : Fields → (node items : List ℕ) → Bool
 is_writable (SessInit interval segment_mru transfer_mru) node items =
     nat_le (length node) longest_node && are_items Session items
@@ -61,11 +61,12 @@ is_writable (Segment flags id size) node items =
     is_empty node && (if is_start flags then are_items Transfer items else is_empty items)
 is_writable _ node items = is_empty node && is_empty items
 
+-- the bytes of a message, or `None` if it may not have this node ID or these items
 abbrev pub message_of : Fields → (node items : List ℕ) → Option (List ℕ)
 message_of fields node items =
     if is_writable fields node items then Some (message_bytes fields node items) else None
 
--- an item that a list has room for, with the five bytes before its value
+-- the bytes of an item, or `None` if they are more than a list may have; five come before the value
 abbrev pub item_of : (flags kind : ℕ) (value : List ℕ) → Option (List ℕ)
 item_of flags kind value =
     if nat_le (5 + length value) longest_list then Some (item_bytes flags kind value) else None

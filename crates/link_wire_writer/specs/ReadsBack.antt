@@ -42,7 +42,7 @@ abbrev pub written_message : Fields → (node items : List ℕ) → Message
 written_message fields node items =
     message_with fields (record { items = node }) (items_in fields items)
 
--- The head that was written is read as this message, whatever bytes follow it.
+-- The head that was written is read as this message, whatever bytes follow it. These are left.
 abbrev pub MessageReadsBack : Type 0
 MessageReadsBack =
     (fields : Fields) (node items more : List ℕ) → FieldsFit fields →
@@ -51,16 +51,17 @@ MessageReadsBack =
 
 -- ---- items
 
--- an extension item with its value
+-- an extension item to write: its flags, its type, and the bytes of its value
 pub record NewItem : Type 0 where
   pub flags : ℕ
   pub kind : ℕ
   pub value : List ℕ
 
+-- the flags and the type of an item fit in their fields
 abbrev pub ItemFits : NewItem → Type 0
 ItemFits item = (item.flags < 2 ^ 8) × (item.kind < 2 ^ 16)
 
--- items one after another
+-- the bytes of items one after another
 abbrev pub items_bytes : List NewItem → List ℕ
 items_bytes items = flat_map (λ (item : NewItem). item_bytes item.flags item.kind item.value) items
 
@@ -73,7 +74,8 @@ read_item owner item = record {
   total = total_of owner item.kind (length item.value) item.value;
 }
 
--- Items that were written one after another are read as these items.
+-- Items that were written one after another are read as these items, if a list may have them: at
+-- most 64, in at most 65,536 bytes.
 abbrev pub ItemsReadBack : Type 0
 ItemsReadBack =
     (owner : ListOf) (items : List NewItem) → All ItemFits items → length items ≤ most_items →

@@ -15,6 +15,7 @@ pub record Sent : Type 0 where
   pub items : List ℕ
   pub content : List ℕ
 
+-- the bytes of a message, and then those of its data
 abbrev pub sent_message : Sent → List ℕ
 sent_message sent = message_bytes sent.fields sent.node sent.items ++ sent.content
 
@@ -24,11 +25,11 @@ pub record IsSendable (sent : Sent) : Type 0 where
   pub writable : is_writable sent.fields sent.node sent.items ≡ true
   pub size : length sent.content ≡ data_length (written_message sent.fields sent.node sent.items)
 
--- a contact header, and then messages one after another
+-- the bytes of a contact header with these flags, and then those of the messages
 abbrev pub sent_stream : (flags : ℕ) → List Sent → List ℕ
 sent_stream flags messages = contact_bytes flags ++ flat_map sent_message messages
 
--- the messages with their offsets
+-- the messages with their offsets, of which the first is `offset`
 unfoldable pub sent_entries : (offset : ℕ) → List Sent → List Entry
 sent_entries offset [] = []
 sent_entries offset (sent ∷ more) =
@@ -39,6 +40,7 @@ sent_entries offset (sent ∷ more) =
     } ∷ sent_entries (offset + length (sent_message sent)) more
 
 -- The stream is read as these messages, and ends after the last of them. `list` shows this reading.
+-- The first message begins at offset 6, since a contact header has 6 bytes.
 abbrev pub StreamReadsBack : Type 0
 StreamReadsBack =
     (flags : ℕ) (messages : List Sent) → flags < 2 ^ 8 → All IsSendable messages →

@@ -11,10 +11,12 @@ use link_writing::{WriteFault, put_u8, put_u16, write_parts};
 /// The bytes of an extension item before its value: flags, type and length.
 const ITEM_HEAD: u32 = 5;
 
-/// The greatest length of a value: with the five bytes before it, it fills a list.
+/// The greatest length of a value: with the five bytes before it, it has the 65,536 bytes that a
+/// list may have.
 const VALUE_MAX: usize = 65_531;
 
-/// Writes an extension item to the start of the slice (RFC 9174 section 4.8).
+/// Writes an extension item to the start of the slice (RFC 9174 section 4.8), and returns the
+/// number of its bytes.
 ///
 /// # Errors
 ///
@@ -33,7 +35,7 @@ pub fn write_item(flags: u8, kind: u16, value: &[u8], slice: &mut [u8]) -> Resul
     write_parts(head.as_slice(), value, &[], slice)
 }
 
-/// Whether the bytes are extension items that fill them, few enough for a list.
+/// Whether the bytes are extension items and nothing else: at most 64, in at most 65,536 bytes.
 pub(crate) fn are_items(owner: ListOf, items: &[u8]) -> bool
     ensures { result ≡ are_items owner items.now }
 {

@@ -27,7 +27,8 @@ type Front = ArrayVec<u8, FRONT_MAX>;
 /// The bytes of a message after the items of its list.
 type Tail = ArrayVec<u8, 8>;
 
-/// Writes a contact header of version 4 to the start of the slice (RFC 9174 section 4.2).
+/// Writes a contact header of version 4 to the start of the slice (RFC 9174 section 4.2), and
+/// returns the number of its bytes, which is 6.
 ///
 /// # Errors
 ///
@@ -47,7 +48,7 @@ fn has_list(flags: u8) -> bool
     flags & START == START
 }
 
-/// Whether the node ID and the items are those of a message with these fields.
+/// Whether a message with these fields may have this node ID and these items.
 #[tactic(auto, unfolding(crate::specs::MessageBytes::is_writable))]
 fn is_writable(fields: Fields, node: &[u8], items: &[u8]) -> bool
     ensures { result ≡ is_writable fields node.now items.now }
@@ -63,7 +64,8 @@ fn is_writable(fields: Fields, node: &[u8], items: &[u8]) -> bool
     }
 }
 
-/// Appends a SESS_INIT up to its items (RFC 9174 section 4.6).
+/// Appends a SESS_INIT up to its items (RFC 9174 section 4.6). `list` is the number of bytes of the
+/// items.
 fn put_sess_init(
     front: &mut Front,
     keepalive: u16,
@@ -142,7 +144,8 @@ fn tail_of(fields: Fields) -> Tail
     tail
 }
 
-/// Writes a message to the start of the slice, without the data of a segment.
+/// Writes a message to the start of the slice, without the data of a segment, and returns the
+/// number of bytes written.
 ///
 /// `node` are the bytes of the node ID of a SESS_INIT. `items` are the items of the list of a
 /// SESS_INIT, or of an XFER_SEGMENT with START, as [`write_item`](crate::write_item) writes them
@@ -150,9 +153,9 @@ fn tail_of(fields: Fields) -> Tail
 ///
 /// # Errors
 ///
-/// The message has no node ID or no list, and the slice of it is not empty. Or the node ID has more
-/// than 1,024 bytes, or `items` more than 65,536, or they are no list of at most 64 items. Or the
-/// slice is too small.
+/// The message has no node ID, and `node` is not empty. Or it has no list, and `items` is not
+/// empty. Or the node ID has more than 1,024 bytes, or `items` more than 65,536. Or `items` are not
+/// whole items, or more than 64. Or the slice is too small.
 pub fn write_message(
     fields: Fields,
     node: &[u8],

@@ -10,7 +10,7 @@ use Rattle.link_ffi_numbers.specs.Recording.{has_list_at}
 use Rattle.link_ffi_numbers.specs.declared.recording.Message.{Message}
 use Rattle.tcpclkit_c.specs.declared.announced.AnnouncedNumbers.{AnnouncedNumbers}
 
--- whether the message is a segment that has its list of items among `size` bytes
+-- whether the message is an XFER_SEGMENT (kind 1) whose list of items lies in the `size` bytes
 abbrev pub may_announce : (size : ℕ) → Message → Bool
 may_announce size it = it.kind == 1 && has_list_at size it it.items_offset
 
@@ -25,7 +25,7 @@ abbrev pub announced_part : Part (ArrayVec Item) → Option Announced
 announced_part (Ok (items, rest)) = Some (announced_of items.items)
 announced_part (Err fault) = None
 
--- the numbers of the announcement, or TCPCLKIT_RANGE
+-- the numbers of the announcement are returned, or TCPCLKIT_RANGE if the bytes are no list
 abbrev pub ReturnsAnnounced : Option Announced → (old new : AnnouncedNumbers) → ℕ → Type 0
 ReturnsAnnounced None old new status = (status ≡ 6) × (new ≡ old)
 ReturnsAnnounced (Some announced) old new status = (status ≡ 0) × (new ≡ announced_shown announced)

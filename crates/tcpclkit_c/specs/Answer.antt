@@ -29,6 +29,7 @@ pub record IsAnswer (it : Message) (answer : Answer) : Type 0 where
 abbrev pub IsNoAnswer : Message → Type 0
 IsNoAnswer it = (answer : Answer) → IsAnswer it answer → ⊥
 
+-- the message is this answer, or no answer if the `Option` is `None`
 abbrev pub IsAnswerOrNone : Message → Option Answer → Type 0
 IsAnswerOrNone it (Some answer) = IsAnswer it answer
 IsAnswerOrNone it None = IsNoAnswer it

@@ -18,14 +18,17 @@ pub record Names : Type 0 where
   pub source : List ℕ
   pub report_to : List ℕ
 
+-- these three names, or these three slices
 abbrev pub three_names : (destination source report_to : List ℕ) → Names
 three_names destination source report_to =
     record { destination = destination; source = source; report_to = report_to }
 
+-- the three names of a good bundle
 abbrev pub names_of : BundleInfo → Names
 names_of info =
     three_names (name_of info.destination) (name_of info.source) (name_of info.report_to)
 
+-- the three names in a primary block up to its first fault
 abbrev pub primary_names : PrimaryFields → Names
 primary_names primary =
     three_names (name_or_none primary.destination) (name_or_none primary.source)
@@ -68,14 +71,16 @@ cut_primary verdict primary slices =
       report_to = cut_eid primary.report_to slices.report_to;
     }
 
--- the bytes are no good bundle: the numbers and the names are those up to the first fault
+-- The bytes are no good bundle: the numbers and the names are those up to the first fault. The
+-- status does not say whether a name was cut.
 pub record ReturnsBadBundle (verdict : Verdict) (state : State) (primary : PrimaryFields)
     (old new : Names) (bundle : Bundle) (status : ℕ) : Type 0 where
   pub numbers : bundle ≡ cut_primary verdict primary new
   pub names : ReturnsNames (primary_names primary) old new
   pub stops : status ≡ state_status state
 
--- the answer, by the verdict, by where the payload's bytes are, and by the primary block
+-- What is returned for this verdict: the case of a good bundle, and the case of a fault. The second
+-- argument is the payload's offset, and the number of its bytes that have come.
 abbrev pub ReturnsInfo : Result BundleInfo (BundleFault × ℕ) → Option (ℕ × ℕ) → PrimaryFields
     → (old new : Names) → Bundle → ℕ → Type 0
 ReturnsInfo (Ok info) span primary old new bundle status =

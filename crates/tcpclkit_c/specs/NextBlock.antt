@@ -28,7 +28,7 @@ added seen run = drop (length (blocks_in seen)) (blocks_in (seen ++ run))
 abbrev pub added_block : (seen piece : List ℕ) → BlockNumbers
 added_block seen piece = first_shown (added seen (fed_block seen piece))
 
--- the status of the bytes that were seen then, or TCPCLKIT_SCAN_ENDED, or TCPCLKIT_RANGE
+-- the status after a scan has taken its bytes of the next piece, up to the end of a block
 abbrev pub fed_block_status : (seen piece : List ℕ) → ℕ
 fed_block_status seen piece = status_after seen piece (fed_block seen piece)
 

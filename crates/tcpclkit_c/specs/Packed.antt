@@ -13,7 +13,7 @@ use Rattle.link_ffi_tools.specs.declared.options.{MoreNumbers.MoreNumbers, PackN
 use Rattle.link_ffi_tools.specs.declared.running.Run.{Run}
 use Rattle.link_ffi_tools.specs.declared.running.Wants.{Wants}
 
--- a tool that asked for memory, or `None` if it was refused
+-- a tool that asked for memory, or `None` if the memory was refused
 abbrev pub tool_with : Result Cutter AllocError → Tool → Option Tool
 tool_with (Ok cutter) tool = Some tool
 tool_with (Err refused) tool = None
@@ -45,7 +45,8 @@ pub record HasMoreOptions (options : MoreOptions) (numbers : MoreNumbers) : Type
   pub first : options.first ≡ numbers.first
   pub pack : HasOptions options.pack (packed_by numbers) []
 
--- The segments of the bundles were written with these options, in the same way.
+-- The segments of the bundles were written with these options, and the texts are returned as by
+-- `ReturnsPacked`.
 pub record ReturnsMore (words bytes : List ℕ) (wants : Wants) (old new : Slices) (run : Run)
     (status : ℕ) : Type 0 where
   pub options : MoreOptions

@@ -75,7 +75,8 @@ abbrev pub may_end : (seen : List ℕ) → ℕ → Bool
 may_end seen count =
     (count == length seen) || (nat_lt (length seen) count && not (bundle_goes seen))
 
--- the verdict on the bytes seen and any that came after them, or TCPCLKIT_RANGE
+-- The verdict on `count` bytes, which are those seen and any after them. If `may_end` is false, the
+-- status is TCPCLKIT_RANGE.
 pub record EndsScan (seen : List ℕ) (count : ℕ) (old new : Verdict) (status : ℕ) : Type 0 where
   pub range : may_end seen count ≡ false → (status ≡ 6) × (new ≡ old)
   pub gives : may_end seen count ≡ true → (rest : List ℕ) → length (seen ++ rest) ≡ count
@@ -88,7 +89,7 @@ pub record ReturnsCut (seen : List ℕ) (block : BlockNumbers) (status : ℕ) : 
 
 -- ---- memory that may have no scan
 
--- Memory that has a scan is handled as that scan. Without the mark the answer is TCPCLKIT_RANGE.
+-- `Feeds` for memory that may have no scan; without the mark, the answer is TCPCLKIT_RANGE
 pub record FeedsMarkedScan (old : MarkedScan) (piece : List ℕ) (new : MarkedScan)
     (taken status : ℕ) : Type 0 where
   pub scan : (seen : List ℕ) → IsMarkedScanAt old seen → Feeds seen piece new taken status

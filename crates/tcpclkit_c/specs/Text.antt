@@ -31,21 +31,24 @@ named_text (named.Order fault) = order_text fault
 named_text (named.Answer fault) = answer_text fault
 named_text (named.Bundle fault) = code_text fault ++ codes " " ++ bundle_fault_text fault
 
+-- the words of a fault, if there is one
 abbrev pub option_text : Option Named → Option (List ℕ)
 option_text None = None
 option_text (Some fault) = Some (named_text fault)
 
+-- the text of an endpoint ID, if there is one
 abbrev pub option_eid_text : Option Eid → Option (List ℕ)
 option_eid_text None = None
 option_eid_text (Some eid) = Some (eid_text eid)
 
--- the name of a reason, if the kind of message has one
+-- the name of a reason, or `None` if the kind of message has no reason or the reason is above 255
 abbrev pub reason_text_by : (kind reason : ℕ) → Option (List ℕ)
 reason_text_by kind reason =
     option_and_then (λ of. if nat_lt reason 256 then Some (name_of of reason) else None)
     (reason_of_by kind)
 
--- a primary block, a canonical block, and the number of bytes of its data
+-- whether these are a primary block (kind 1), a canonical block (kind 2), and the number of bytes
+-- of the data of the canonical block
 abbrev pub is_data_of : (primary block : BlockNumbers) → (size : ℕ) → Bool
 is_data_of primary block size =
     primary.kind == 1 && (block.kind == 2 && (block.data_length == size

@@ -16,7 +16,7 @@ use link_wire::{Items, ListOf, item_in};
 pub struct AnnouncedNumbers {
     /// 0 if no length is announced, 1 for a length, and 2 if the items announce it wrongly.
     pub kind: u64,
-    /// The length.
+    /// The length, or 0 if `kind` is not 1.
     pub total: u64,
 }
 
@@ -56,14 +56,17 @@ fn announced_in(bytes: &[u8], start: usize, size: u32) -> Option<Announced>
     Some(announced(&items))
 }
 
-/// Whether the message is a segment that has its list of items in these bytes.
+/// Whether the message is an XFER_SEGMENT (kind 1) whose list of items lies in these bytes.
 fn may_announce(bytes: &[u8], message: &Message) -> bool
     ensures { result ≡ may_announce (length bytes.now) message.now }
 {
     message.kind == 1 && has_list_at(bytes, message, message.items_offset)
 }
 
-/// Reads the length that a segment announces. Returns `RANGE` if its items are no list there.
+/// Reads the length that a segment announces, and returns `OK`.
+///
+/// Writes nothing and returns `RANGE` if [`may_announce`] is false, or if the bytes there are no
+/// list of items.
 #[unsafe(no_mangle)]
 pub extern "C" fn tcpclkit_raw_read_announced(
     bytes: &[u8],

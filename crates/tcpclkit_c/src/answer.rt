@@ -41,7 +41,7 @@ fn sent_by(sent: &SentNumbers) -> Option<Sent>
     })
 }
 
-/// The answer that a message is, if it is one.
+/// The answer that a message is, or `None` if it is neither an XFER_ACK nor an XFER_REFUSE.
 fn answer_by(message: &Message) -> Option<Answer>
     ensures { IsAnswerOrNone message.now result }
 {

@@ -133,7 +133,10 @@ fn give_bad(
     state_status(state)
 }
 
-/// Writes the verdict on the bytes that a scan has judged, and the fields that were accepted.
+/// Writes the verdict on the bytes that a scan has judged, and the fields and names that were
+/// accepted.
+///
+/// Returns `OK` or `TOO_SMALL` for a good bundle, and else `TRUNCATED` or `FAULT`.
 pub(crate) fn give_info(
     scan: &BundleScan,
     primary: &PrimaryView<'_>,
@@ -171,7 +174,11 @@ pub(crate) fn give_info(
     }
 }
 
-/// Judges the bytes as one bundle, and writes the verdict and the fields that were accepted.
+/// Judges the bytes as one bundle, and writes the verdict, and the fields and names that were
+/// accepted.
+///
+/// Returns `OK` for a good bundle, or `TOO_SMALL` if a name of it does not fit in its slice. Else
+/// returns `TRUNCATED` or `FAULT`, also if a name does not fit.
 #[unsafe(no_mangle)]
 pub extern "C" fn tcpclkit_raw_describe_bundle(
     bytes: &[u8],

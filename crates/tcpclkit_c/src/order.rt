@@ -10,7 +10,7 @@ use link_ffi_numbers::order::{Order, Turn, event_by, is_in_range, judge, new_ord
 use link_ffi_numbers::recording;
 use link_ffi_numbers::status::{OK, RANGE};
 
-/// Makes the order of a session before its first message.
+/// Makes the order of a session before its first message, and returns `OK`.
 #[unsafe(no_mangle)]
 pub extern "C" fn tcpclkit_raw_start_order(order: &mut Order) -> u32
     ensures order { IsOrderAt order.new [] }

@@ -11,7 +11,7 @@ use link_ffi_numbers::recording::{
 use link_ffi_numbers::status::{END, OK, RANGE};
 use link_wire::{contact_in, item_in, message_in};
 
-/// Reads the contact header that the bytes begin with.
+/// Reads the contact header that the bytes begin with. Returns `OK`, `TRUNCATED` or `FAULT`.
 #[unsafe(no_mangle)]
 pub extern "C" fn tcpclkit_raw_read_contact(bytes: &[u8], answer: &mut Contact) -> u32
     ensures { ReturnsContact (contact_at bytes.now) answer.new result }

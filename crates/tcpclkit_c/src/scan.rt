@@ -62,7 +62,7 @@ fn new_scan() -> MarkedScan
     }
 }
 
-/// Makes a scan that has seen no byte.
+/// Makes a scan that has seen no byte in the memory, and returns `OK`.
 #[unsafe(no_mangle)]
 pub unsafe extern "C" fn tcpclkit_raw_start_scan(memory: *mut u64) -> u32
     requires* { sem 𝓛 (room_at the_row memory) }
@@ -120,7 +120,11 @@ fn feed(scan: &mut MarkedScan, piece: &[u8], taken: &mut u64) -> u32
     piece_status(&scan.scan, late)
 }
 
-/// Takes the bytes of the piece that belong to the bundle.
+/// Takes the bytes of the piece that belong to the bundle, and writes their number to `taken`.
+///
+/// Returns `OK`, `TRUNCATED` or `FAULT` for the bytes seen then. Takes no byte and returns
+/// `SCAN_ENDED` if the piece has bytes and the scan needed none, or `RANGE` if [`may_feed`] is
+/// false.
 #[unsafe(no_mangle)]
 pub unsafe extern "C" fn tcpclkit_raw_feed_scan(
     memory: *mut u64,
@@ -147,7 +151,8 @@ fn take_block(scan: &mut BundleScan, piece: &[u8]) -> usize
     scan.feed_block(piece)
 }
 
-/// Takes bytes up to the end of a block, writes this block or no block, and returns the status.
+/// Takes bytes of the piece up to the end of a block, and returns the status after them. Writes
+/// this block, or no block if none ends with these bytes.
 ///
 /// If [`may_feed`] is false, takes no byte, writes no block and returns `RANGE`.
 fn next_block(scan: &mut MarkedScan, piece: &[u8], taken: &mut u64, block: &mut BlockNumbers) -> u32
@@ -171,7 +176,10 @@ fn next_block(scan: &mut MarkedScan, piece: &[u8], taken: &mut u64, block: &mut 
     piece_status(&scan.scan, late)
 }
 
-/// Takes the bytes of the piece up to the end of a block, and writes this block, or no block.
+/// Takes the bytes of the piece up to the end of a block, and writes their number to `taken`.
+///
+/// Writes this block, or no block if none ends with these bytes. Returns a status as
+/// [`tcpclkit_raw_feed_scan`] does.
 #[unsafe(no_mangle)]
 pub unsafe extern "C" fn tcpclkit_raw_next_block(
     memory: *mut u64,
@@ -202,7 +210,8 @@ fn judge(scan: &MarkedScan, answer: &mut Verdict) -> u32
     give_verdict(&scan.scan, answer)
 }
 
-/// Writes the verdict on the bytes seen, and returns its status.
+/// Writes the verdict on the bytes seen. Returns `OK`, `TRUNCATED` or `FAULT`, or `RANGE` if the
+/// memory has no scan.
 #[unsafe(no_mangle)]
 pub unsafe extern "C" fn tcpclkit_raw_judge_scan(memory: *const u64, answer: &mut Verdict) -> u32
     ghost lent: { LentScan }
@@ -214,7 +223,8 @@ pub unsafe extern "C" fn tcpclkit_raw_judge_scan(memory: *const u64, answer: &mu
     judge(&*(memory as *const MarkedScan), answer)
 }
 
-/// Whether the verdict on `count` bytes is known, of which the scan has seen the first.
+/// Whether the verdict on `count` bytes is known, of which the scan has seen the first: it has seen
+/// all of them, or it needs no more.
 fn may_end(scan: &BundleScan, count: u64) -> bool
     ensures { (seen : List ℕ) → HasScanned scan.now seen → result ≡ may_end seen count }
 {
@@ -222,7 +232,7 @@ fn may_end(scan: &BundleScan, count: u64) -> bool
 }
 
 /// Writes the verdict on the bytes that the scan has seen and more bytes after them (`rest`), which
-/// it did not need.
+/// it did not need. Returns `FAULT`: after a good bundle the fault is `Trailing`.
 fn give_late(scan: &BundleScan, answer: &mut Verdict) -> u32
     ensures { (seen rest : List ℕ) → HasScanned scan.now seen → bundle_goes seen ≡ false
         → 0 < length rest → ReturnsVerdict (seen ++ rest) answer.new result }
@@ -237,7 +247,8 @@ fn give_late(scan: &BundleScan, answer: &mut Verdict) -> u32
     }
 }
 
-/// Writes the verdict on `count` bytes: those that the scan has seen, and those after them.
+/// Writes the verdict on `count` bytes: those that the scan has seen, and those after them. Returns
+/// its status.
 fn give_end(scan: &BundleScan, count: u64, answer: &mut Verdict) -> u32
     ensures { (seen rest : List ℕ) → HasScanned scan.now seen → may_end seen count ≡ true
         → length (seen ++ rest) ≡ count → ReturnsVerdict (seen ++ rest) answer.new result }
@@ -265,6 +276,9 @@ fn end(scan: &MarkedScan, count: u64, answer: &mut Verdict) -> u32
 }
 
 /// Writes the verdict on `count` bytes as one bundle: those seen, and those that came after them.
+///
+/// Returns `OK`, `TRUNCATED` or `FAULT`. If the memory has no scan, or if [`may_end`] is false,
+/// writes nothing and returns `RANGE`.
 #[unsafe(no_mangle)]
 pub unsafe extern "C" fn tcpclkit_raw_end_scan(
     memory: *const u64,
@@ -295,7 +309,8 @@ fn judge_block(scan: &MarkedScan, block: &mut BlockNumbers) -> u32
     if cut.is_some() { OK } else { END }
 }
 
-/// Writes the block in whose data or check field the bytes seen end, or returns `END`.
+/// Writes the block in whose data or check field the bytes seen end, and returns `OK`. Writes no
+/// block and returns `END` if they end elsewhere, or `RANGE` if the memory has no scan.
 #[unsafe(no_mangle)]
 pub unsafe extern "C" fn tcpclkit_raw_judge_block(
     memory: *const u64,
@@ -337,7 +352,11 @@ fn describe(
     )
 }
 
-/// Writes the verdict on the bytes seen, and the fields that were accepted.
+/// Writes the verdict on the bytes seen, and the fields and names that were accepted.
+///
+/// Returns `OK` for a good bundle, or `TOO_SMALL` if a name of it does not fit in its slice. Else
+/// returns `TRUNCATED` or `FAULT`, also if a name does not fit, or `RANGE` if the memory has no
+/// scan.
 #[unsafe(no_mangle)]
 pub unsafe extern "C" fn tcpclkit_raw_describe_scan(
     memory: *const u64,

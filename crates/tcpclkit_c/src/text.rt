@@ -55,7 +55,8 @@ fn put_named(line: &mut Line, named: Named)
     }
 }
 
-/// Copies a text into the slice, as far as there is room. Returns `OK` or `TOO_SMALL`.
+/// Copies a text into the slice, as far as there is room, and writes the number of bytes copied to
+/// `written`. Returns `OK`, or `TOO_SMALL` if the text does not fit.
 fn give(text: &[u8], slice: &mut [u8], written: &mut u64) -> u32
     ensures { ReturnsThisText text.now slice.old slice.new written.new result }
 {
@@ -67,7 +68,8 @@ fn give(text: &[u8], slice: &mut [u8], written: &mut u64) -> u32
     }
 }
 
-/// Writes the words of the fault with these numbers, or returns `RANGE` if there is none.
+/// Writes the words of the fault with these numbers. Returns `OK` or `TOO_SMALL`, or `RANGE` if
+/// there is no such fault.
 #[unsafe(no_mangle)]
 pub extern "C" fn tcpclkit_raw_write_fault_text(
     code: u64,
@@ -89,7 +91,8 @@ pub extern "C" fn tcpclkit_raw_write_fault_text(
     }
 }
 
-/// Writes the endpoint ID with these numbers and this name, or returns `RANGE` if there is none.
+/// Writes the text of the endpoint ID with these numbers and this name. Returns `OK` or
+/// `TOO_SMALL`, or `RANGE` if there is no such endpoint ID.
 #[unsafe(no_mangle)]
 pub extern "C" fn tcpclkit_raw_write_eid_text(
     eid: &EidNumbers,
@@ -143,8 +146,8 @@ pub extern "C" fn tcpclkit_raw_read_eid_text(
     }
 }
 
-/// Writes the name of a reason of a message of this kind, or returns `RANGE` if the kind has no
-/// reason, or the reason is above 255.
+/// Writes the name of a reason of a message of this kind. Returns `OK` or `TOO_SMALL`, or `RANGE`
+/// if the kind has no reason, or the reason is above 255.
 #[unsafe(no_mangle)]
 pub extern "C" fn tcpclkit_raw_write_reason_text(
     kind: u64,
@@ -164,7 +167,7 @@ pub extern "C" fn tcpclkit_raw_write_reason_text(
     give(reason_name(of, reason as u8).as_bytes(), text, written)
 }
 
-/// Writes the name of a reason of a status report.
+/// Writes the name of a reason of a status report. Returns `OK` or `TOO_SMALL`.
 #[unsafe(no_mangle)]
 pub extern "C" fn tcpclkit_raw_write_report_reason_text(
     reason: u64,
@@ -176,7 +179,7 @@ pub extern "C" fn tcpclkit_raw_write_report_reason_text(
     give(report_reason_name(reason).as_bytes(), text, written)
 }
 
-/// Writes the name of a block type.
+/// Writes the name of a block type. Returns `OK` or `TOO_SMALL`.
 #[unsafe(no_mangle)]
 pub extern "C" fn tcpclkit_raw_write_block_type_text(
     block_type: u64,
@@ -228,7 +231,8 @@ fn without_space(words: &[u8]) -> &[u8]
     &words[1.min(words.len())..]
 }
 
-/// Writes what the data of a block says. Returns `RANGE` if [`is_data_of`] is false.
+/// Writes what the data of a block says. Returns `OK` or `TOO_SMALL`, or `RANGE` if [`is_data_of`]
+/// is false.
 #[unsafe(no_mangle)]
 pub extern "C" fn tcpclkit_raw_read_block_data(
     primary: &BlockNumbers,

@@ -1,8 +1,8 @@
 //! Exports that run a whole tool over a slice, into two slices.
 //!
-//! A text is wanted if its `wants_` number is not 0. A text that is not wanted needs no room in its
-//! slice. `options` has a number for each option that the caller's version of the header has, in
-//! the order of the header.
+//! A text is wanted if its `wants_` argument is not 0. A text that is not wanted needs no room in
+//! its slice. `options` has a number for each option that the caller's version of the header has,
+//! in the order of the header.
 
 ghost use Rattle.std.specs.Prelude.{◌≡◌, true, false, length, IfOk};
 ghost use Rattle.link_tool_list.specs.Listing.{list_tool};
@@ -24,7 +24,9 @@ use link_tools::{PackOptions, RunEnd, cutter_for, pack};
 use link_transfer::Cutter;
 use std::alloc::{AllocError, Global};
 
-/// Runs `list` over the bytes. Returns `OK`, or `TOO_SMALL` if a wanted text does not fit.
+/// Runs `list` over the bytes. A text is wanted if its `wants_` argument is not 0.
+///
+/// Returns `OK`, or `TOO_SMALL` if a wanted text does not fit in its slice.
 #[unsafe(no_mangle)]
 pub extern "C" fn tcpclkit_raw_list(
     bytes: &[u8],
@@ -47,7 +49,7 @@ pub extern "C" fn tcpclkit_raw_list(
     list_into(bytes, wants, output, report, answer)
 }
 
-/// Runs `unpack` over the bytes.
+/// Runs `unpack` over the bytes. A text is wanted if its `wants_` argument is not 0.
 ///
 /// Returns `OK`, or `TOO_SMALL` if a wanted text does not fit in its slice. If an option is out of
 /// range, writes nothing and returns `RANGE`.
@@ -76,7 +78,7 @@ pub extern "C" fn tcpclkit_raw_unpack(
     unpack_into(bytes, options, wants, output, report, answer)
 }
 
-/// Runs `blocks` over the bytes.
+/// Runs `blocks` over the bytes. A text is wanted if its `wants_` argument is not 0.
 ///
 /// Returns `OK`, or `TOO_SMALL` if a wanted text does not fit in its slice. If an option is out of
 /// range, writes nothing and returns `RANGE`.
@@ -105,7 +107,7 @@ pub extern "C" fn tcpclkit_raw_blocks(
     blocks_into(bytes, options, wants, output, report, answer)
 }
 
-/// Runs `check` over the bytes.
+/// Runs `check` over the bytes. A text is wanted if its `wants_` argument is not 0.
 ///
 /// Returns `OK`, or `TOO_SMALL` if a wanted text does not fit in its slice. If an option is out of
 /// range, writes nothing and returns `RANGE`.
@@ -156,7 +158,7 @@ impl SliceTool for Packing {
     }
 }
 
-/// Runs `pack` over the bytes.
+/// Runs `pack` over the bytes. A text is wanted if its `wants_` argument is not 0.
 ///
 /// Returns `OK`, or `TOO_SMALL` if a wanted text does not fit in its slice, or `MEMORY` if the
 /// request for memory was refused. If an option or the length of the node ID is out of range,
@@ -224,7 +226,7 @@ impl SliceTool for MorePacking {
     }
 }
 
-/// The options of `pack` with these numbers.
+/// The options of `pack` with these numbers. Those that `pack_more` does not read are 0.
 fn packed_by(numbers: &MoreNumbers) -> PackNumbers
     ensures { result ≡ packed_by numbers.now }
 {
@@ -250,8 +252,12 @@ fn more_options(numbers: &MoreNumbers) -> MoreOptions
     }
 }
 
-/// Runs `pack_more` over the bytes. Returns `OK`, `TOO_SMALL`, `MEMORY`, or `RANGE` for bad
-/// options, also if the IDs may run out.
+/// Runs `pack_more` over the bytes. A text is wanted if its `wants_` argument is not 0.
+///
+/// Returns `OK`, or `TOO_SMALL` if a wanted text does not fit in its slice, or `MEMORY` if the
+/// request for memory was refused. If an option is out of range, writes nothing and returns
+/// `RANGE`. So it does if `first` and the number of bytes together exceed 2^64 - 1, since the
+/// transfer IDs could then run out.
 #[unsafe(no_mangle)]
 pub extern "C" fn tcpclkit_raw_pack_more(
     alloc: Global,

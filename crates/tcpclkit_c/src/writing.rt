@@ -27,7 +27,8 @@ use link_ffi_writer::{
 use link_wire_writer::{write_contact, write_item, write_message};
 use link_writing::WriteFault;
 
-/// Shows what a writer returned.
+/// Writes what a writer returned as numbers. Returns `OK`, `TOO_SMALL`, or `RANGE` if a value is
+/// out of its range.
 fn give(outcome: Result<usize, WriteFault>, written: &mut Written) -> u32
     ensures { (written.new, result) ≡ written_shown outcome }
 {
@@ -36,7 +37,7 @@ fn give(outcome: Result<usize, WriteFault>, written: &mut Written) -> u32
     status
 }
 
-/// Writes a contact header.
+/// Writes a contact header. Returns `OK` or `TOO_SMALL`, or `RANGE` if `flags` is above 255.
 #[unsafe(no_mangle)]
 pub extern "C" fn tcpclkit_raw_write_contact(
     flags: u64,
@@ -54,7 +55,7 @@ pub extern "C" fn tcpclkit_raw_write_contact(
     give(outcome, written)
 }
 
-/// Writes an extension item.
+/// Writes an extension item. Returns `OK`, `TOO_SMALL` or `RANGE`.
 #[unsafe(no_mangle)]
 pub extern "C" fn tcpclkit_raw_write_item(
     flags: u64,
@@ -73,7 +74,7 @@ pub extern "C" fn tcpclkit_raw_write_item(
     give(outcome, written)
 }
 
-/// Writes a message, without the data of a segment.
+/// Writes a message, without the data of a segment. Returns `OK`, `TOO_SMALL` or `RANGE`.
 #[unsafe(no_mangle)]
 pub extern "C" fn tcpclkit_raw_write_message(
     message: &Message,
@@ -95,7 +96,7 @@ pub extern "C" fn tcpclkit_raw_write_message(
     give(outcome, written)
 }
 
-/// Writes a primary block with its check field.
+/// Writes a primary block with its check field. Returns `OK`, `TOO_SMALL` or `RANGE`.
 #[unsafe(no_mangle)]
 pub extern "C" fn tcpclkit_raw_write_primary(
     bundle: &Bundle,
@@ -123,7 +124,7 @@ pub extern "C" fn tcpclkit_raw_write_primary(
     give(outcome, written)
 }
 
-/// Writes a canonical block up to its data.
+/// Writes a canonical block up to its data. Returns `OK`, `TOO_SMALL` or `RANGE`.
 #[unsafe(no_mangle)]
 pub extern "C" fn tcpclkit_raw_write_block_head(
     block: &BlockNumbers,
@@ -139,7 +140,8 @@ pub extern "C" fn tcpclkit_raw_write_block_head(
     give(outcome, written)
 }
 
-/// Makes a check to which no byte was fed.
+/// Makes a check to which no byte was fed, and returns `OK`. Writes zeros and returns `RANGE` if
+/// no check has this kind.
 #[unsafe(no_mangle)]
 pub extern "C" fn tcpclkit_raw_start_check(check: &mut KeptCheck, kind: u64) -> u32
     ensures started { (known : CheckKind) → kind_by kind ≡ Some known
@@ -171,7 +173,8 @@ pub extern "C" fn tcpclkit_raw_feed_check(check: &mut KeptCheck, piece: &[u8]) -
     if check.feed(piece) { OK } else { RANGE }
 }
 
-/// The check value of the bytes that were fed.
+/// Writes the check value of the bytes that were fed, and returns `OK`. Writes 0 and returns
+/// `RANGE` if the numbers are those of no check.
 #[unsafe(no_mangle)]
 pub extern "C" fn tcpclkit_raw_end_check(check: &KeptCheck, value: &mut u64) -> u32
     ensures value { (kind : CheckKind) (bytes : List ℕ) → IsKeptCheckAt kind check.now bytes
@@ -191,6 +194,8 @@ pub extern "C" fn tcpclkit_raw_end_check(check: &KeptCheck, value: &mut u64) -> 
 }
 
 /// Writes the check field of a block whose bytes before the field were fed.
+///
+/// Returns `OK` or `TOO_SMALL`, or `RANGE` if the numbers are those of no check.
 #[unsafe(no_mangle)]
 pub extern "C" fn tcpclkit_raw_write_check(
     check: &KeptCheck,
@@ -205,7 +210,7 @@ pub extern "C" fn tcpclkit_raw_write_check(
     give(check.write_field(bytes), written)
 }
 
-/// Writes an endpoint ID in CBOR.
+/// Writes an endpoint ID in CBOR. Returns `OK`, `TOO_SMALL` or `RANGE`.
 #[unsafe(no_mangle)]
 pub extern "C" fn tcpclkit_raw_write_eid(
     eid: &EidNumbers,
@@ -223,7 +228,7 @@ pub extern "C" fn tcpclkit_raw_write_eid(
     give(outcome, written)
 }
 
-/// Writes the data of a bundle age block.
+/// Writes the data of a bundle age block. Returns `OK` or `TOO_SMALL`.
 #[unsafe(no_mangle)]
 pub extern "C" fn tcpclkit_raw_write_age(age: u64, bytes: &mut [u8], written: &mut Written) -> u32
     ensures { ReturnsWritten (Some (age_bytes age)) bytes.old bytes.new written.new result }
@@ -231,7 +236,7 @@ pub extern "C" fn tcpclkit_raw_write_age(age: u64, bytes: &mut [u8], written: &m
     give(write_age(age, bytes), written)
 }
 
-/// Writes the data of a hop count block.
+/// Writes the data of a hop count block. Returns `OK` or `TOO_SMALL`.
 #[unsafe(no_mangle)]
 pub extern "C" fn tcpclkit_raw_write_hop_count(
     limit: u64,
