@@ -15,7 +15,7 @@ use Rattle.link_bundle.specs.{Stages.{stage_state, takes_bytes}, declared.cursor
 use Rattle.link_bundle.specs.declared.{draft.Draft.Draft, scan.BundleScan.BundleScan}
 use Rattle.link_bundle.specs.declared.stage.ScanStage.{ScanStage}
 use Rattle.link_bundle.specs.declared.stage.ScanStage.TheVariants.{Failed}
-use Rattle.link_bundle_blocks.proofs.{Lengths.TrailingLasts-holds, Payloads.PayloadEnds-holds}
+use Rattle.link_bundle_blocks.proofs.{Lengths.TrailingLasts-holds, Payloads.EndedPayloadStays-holds}
 use Rattle.link_bundle.proofs.Verdicts.{state_of-seen}
 
 -- ---- the state
@@ -190,7 +190,7 @@ module _ (scan : BundleScan) (content : List ℕ) (now : HasJudged scan content)
   pub payload_judged : payload_in now.seen ≡ payload_in content
   payload_judged = ⊎_elim
       (λ (all : now.rest ≡ []). ap payload_in (all_seen all))
-      (λ stuck. sym (PayloadEnds-holds now.seen now.rest
+      (λ stuck. sym (EndedPayloadStays-holds now.seen now.rest
       (stuck_stops scan now.seen now.scanned stuck))
       ∙ ap payload_in now.parts)
       now.enough

@@ -19,7 +19,7 @@ use Rattle.link_bundle.specs.declared.{scan.BundleScan.BundleScan, stage.ScanSta
 use Rattle.link_bundle.specs.declared.stage.ScanStage.TheVariants.{Failed}
 use Rattle.link_bundle.specs.Fits.{hold_fits, part_goes, scan_fits, stage_fits}
 use Rattle.link_bundle.specs.Left.{primary_of, stage_last, stage_left}
-use Rattle.link_bundle.specs.Scan.{HasScannedBy, HasScanned, TakesRun, IsHoldingPart, HeadScanFits, Advances, AddsBlock, part_start}
+use Rattle.link_bundle.specs.Scan.{HasScannedBy, HasScanned, TakesRun, IsHoldingPart, IsAtStage, Advances, AddsBlock, part_start}
 use Rattle.link_bundle.specs.Stages.{limit, HasCovered, IsLeastShown, is_cut, is_part, any_reading, part_reading, stage_state, takes_bytes}
 use Rattle.link_bundle.proofs.HeldPart.{has_part, at_part, part_stopped, goes_in_part}
 use Rattle.link_bundle.proofs.StageParts.{any_part, stage_part, cut_front, same_front, same_more, ends_within, ends_after}
@@ -45,7 +45,7 @@ grown : {stage : ScanStage} {old new : Cursor} {draft : Draft} {before : List Bl
     → ((more : List ℕ) → judged_bundle ((seen ++ run) ++ more)
     ≡ with_blocks (after ++ stage_last next draft (part_start new))
     (stage_left next draft (part_start new) ((seen ++ run) ++ more)))
-    → HeadScanFits next new draft (seen ++ run)
+    → IsAtStage next new draft (seen ++ run)
     → HasScannedBy next new draft after (seen ++ run)
 grown {old = old} {new = new} {draft = draft} {seen = seen} next after run come are hold count reads
     stands = record {

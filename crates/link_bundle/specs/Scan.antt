@@ -54,11 +54,11 @@ pub record IsInData (left : ℕ) (cursor : Cursor) (block : CanonicalBlock)
   pub checks : IfCheckCovers block.check cursor.check (drop block.start seen)
 
 -- the state of the cursor and the draft at each stage
-abbrev pub HeadScanFits : ScanStage → Cursor → Draft → List ℕ → Type 0
-HeadScanFits (BlockData left) cursor draft seen = IsInData left cursor draft.block seen
-HeadScanFits Ended cursor draft seen = cursor.hold ≡ []
-HeadScanFits (Failed fault offset) cursor draft seen = Unit {0}
-HeadScanFits stage cursor draft seen = IsHoldingPart stage cursor draft seen
+abbrev pub IsAtStage : ScanStage → Cursor → Draft → List ℕ → Type 0
+IsAtStage (BlockData left) cursor draft seen = IsInData left cursor draft.block seen
+IsAtStage Ended cursor draft seen = cursor.hold ≡ []
+IsAtStage (Failed fault offset) cursor draft seen = Unit {0}
+IsAtStage stage cursor draft seen = IsHoldingPart stage cursor draft seen
 
 -- The draft has the fields of the primary block if that is whole, whatever bytes follow. Otherwise
 -- all bytes seen are held.
@@ -103,7 +103,7 @@ pub record HasScannedBy (stage : ScanStage) (cursor : Cursor) (draft : Draft) (b
       → judged_bundle (seen ++ more)
       ≡ with_blocks (before ++ stage_last stage draft (part_start cursor))
       (stage_left stage draft (part_start cursor) (seen ++ more))
-  pub stands : HeadScanFits stage cursor draft seen
+  pub stands : IsAtStage stage cursor draft seen
   pub primary : HasDraftedPrimary cursor draft seen
 
 -- the block that ends with the bytes seen, if one does

@@ -100,7 +100,7 @@ impl BundleScan {
     pub fn view(&self) -> Result<BundleView<'_>, (BundleFault, u64)>
         ensures seen { (seen : List ℕ) → HasScanned self.now seen
             → viewed_verdict result ≡ verdict seen }
-        // This holds whatever was scanned, since there is no room for longer names.
+        // True of every scan, since a draft has no room for longer names.
         ensures short { IfOk result (λ view. HasShortNames (viewed_info view)) }
     {
         match self.stage.state() {

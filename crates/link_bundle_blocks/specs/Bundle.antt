@@ -59,7 +59,8 @@ info_of primary blocks size =
       payload = size;
     }
 
--- the offset after the data of a canonical block and its check field; the value is always `true`
+-- Passes over the data of a canonical block and its check field. Only the offset after them counts:
+-- the value `true` says nothing.
 abbrev pub rest_of : CanonicalBlock → List ℕ → ReadAt Bool
 rest_of block bytes =
     inside block (content_at block.data_length block.check block.start bytes block.data_start)

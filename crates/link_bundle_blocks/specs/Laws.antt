@@ -40,8 +40,8 @@ SpanDeterminesPayload =
     → payload_in bytes ≡ take size (drop offset bytes)
 
 -- after the bundle's end, or after a fault that lasts, the payload gets no more bytes
-abbrev pub PayloadEnds : Type 0
-PayloadEnds =
+abbrev pub EndedPayloadStays : Type 0
+EndedPayloadStays =
     (bytes more : List ℕ) →
     bundle_goes bytes ≡ false → payload_in (bytes ++ more) ≡ payload_in bytes
 

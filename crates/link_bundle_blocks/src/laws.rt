@@ -3,7 +3,7 @@
 //! The functions do nothing when they run. Their contracts are the laws.
 ghost use Rattle.std.specs.Prelude.{◌≡◌, ℕ, List, take};
 ghost use Rattle.link_bundle_blocks.specs.PrimaryFields.{primary_fields};
-ghost use Rattle.link_bundle_blocks.specs.Laws.{FaultLasts, TrailingLasts, PayloadLasts, SpanDeterminesPayload, PayloadEnds, BlocksGrow, NoBlocksAfterEnd, BlocksWithin, NextBlockIsCutOrLater, GoodBlocksTile};
+ghost use Rattle.link_bundle_blocks.specs.Laws.{FaultLasts, TrailingLasts, PayloadLasts, SpanDeterminesPayload, EndedPayloadStays, BlocksGrow, NoBlocksAfterEnd, BlocksWithin, NextBlockIsCutOrLater, GoodBlocksTile};
 
 /// How the verdict on some bytes lasts when more bytes follow.
 ///
@@ -19,7 +19,7 @@ pub fn verdict_lasts()
     ensures trailing { TrailingLasts }
     ensures payload { PayloadLasts }
     ensures placed { SpanDeterminesPayload }
-    ensures ends { PayloadEnds }
+    ensures ends { EndedPayloadStays }
 {}
 
 /// How the blocks among some bytes last when more bytes follow.

@@ -19,7 +19,7 @@ use Rattle.link_bundle_data.specs.{declared.draft.Draft.Draft, BlockData.{alone,
 use Rattle.link_bundle_data.specs.Turns.{first_due, took_run, judged}
 use Rattle.link_bundle_data.specs.Left.{may_follow, stage_left, goes_on}
 use Rattle.link_bundle_data.specs.{declared.scan.DataScan.DataScan, Fits.scan_fits}
-use Rattle.link_bundle_data.specs.Scan.{HasScannedBy, HasScanned, HasScannedToHead, TakesRun, HeadScanFits}
+use Rattle.link_bundle_data.specs.Scan.{HasScannedBy, HasScanned, HasScannedToHead, TakesRun, IsAtStage}
 use Rattle.link_bundle_data.proofs.{Heads.head_turn, Names.name_goes_on, Starts.starts}
 use Rattle.link_bundle_data.proofs.Stops.{due_left-stopped}
 
@@ -46,7 +46,7 @@ grown_reads {seen = seen} come run more = rw (append_assoc seen run more) (come.
 -- ---- a stage that is entered
 
 stands_entered : (stage : DataStage) (head : HeadScan) (offset : ℕ) (seen : List ℕ)
-    → offset ≡ length seen → HasScannedHead head [] → HeadScanFits stage head offset seen
+    → offset ≡ length seen → HasScannedHead head [] → IsAtStage stage head offset seen
 unfolding head_front
 stands_entered (Head which) head offset seen here fresh = record {
   in_bytes = omega arith;

@@ -170,8 +170,9 @@ is_limit WrongKind (Whole head size) = is_indefinite head
 is_limit BadSpecificPart (Whole head size) = is_indefinite head
 is_limit _ front = false
 
--- The fault of data whose reading stops at an offset: at a head, at the end of the bytes if they
--- end inside the item, or at the first byte after the item.
+-- The fault of a block's data, which is one item, by the offset at which its reading stops. That is
+-- at the head that is refused, at the end of the bytes if they cut the item short, or at the first
+-- byte after the item.
 abbrev pub fault_at : List ℕ → BundleFault → ℕ → DataFault
 fault_at bytes fault offset =
     record { offset = offset; is_limit = is_limit fault (head_front (drop offset bytes)) }

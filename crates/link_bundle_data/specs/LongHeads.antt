@@ -5,8 +5,8 @@ use Rattle.link_rules_shared.specs.Heads.{is_long, first_from}
 use Rattle.link_bundle_data.specs.declared.{kind.DataKind.DataKind, values.DataFault.DataFault}
 use Rattle.link_bundle_data.specs.BlockData.{BlockData, PreviousNode, BundleAge, HopCount, Security, StatusReport, OtherRecord, data_of}
 
--- The bytes of well-formed data whose heads are judged: all of them, and of a security block those
--- that are read. The heads of administrative records are not judged.
+-- The bytes of well-formed data whose heads must not be long: all bytes, but of a security block
+-- only those that are read, and of an administrative record none.
 abbrev pub judged_part : BlockData → List ℕ → List ℕ
 judged_part (PreviousNode node) bytes = bytes
 judged_part (BundleAge age) bytes = bytes

@@ -20,10 +20,10 @@ pub record IsInHead (head : HeadScan) (offset : ℕ) (seen : List ℕ) : Type 0 
   pub cut : head_front (drop offset seen) ≡ Cut
 
 -- the state of the scan at each stage
-abbrev pub HeadScanFits : DataStage → HeadScan → ℕ → List ℕ → Type 0
-HeadScanFits (Head which) head offset seen = IsInHead head offset seen
-HeadScanFits (Read found) head offset seen = IsTrue (may_follow found || (offset == length seen))
-HeadScanFits _ head offset seen = Unit {0}
+abbrev pub IsAtStage : DataStage → HeadScan → ℕ → List ℕ → Type 0
+IsAtStage (Head which) head offset seen = IsInHead head offset seen
+IsAtStage (Read found) head offset seen = IsTrue (may_follow found || (offset == length seen))
+IsAtStage _ head offset seen = Unit {0}
 
 -- `long` is the first long head before this stage, if there is one. Whatever bytes follow, the
 -- first of all is `long`, or else the first from this stage on. After the item (`Read`), `long` is
@@ -47,7 +47,7 @@ pub record HasScannedBy (kind : DataKind) (stage : DataStage) (draft : Draft) (h
   pub counted : count ≡ length seen
   pub reads : (more : List ℕ)
       → data_of kind (seen ++ more) ≡ stage_left stage draft (seen ++ more) offset (length seen)
-  pub stands : HeadScanFits stage head offset seen
+  pub stands : IsAtStage stage head offset seen
 
 -- exactly these bytes were seen; the head at `offset` is not judged yet, and may be complete
 pub record HasScannedToHead (kind : DataKind) (which : Due) (draft : Draft) (offset count : ℕ)

@@ -243,8 +243,8 @@ impl Draft {
         DataStage::Head(status.next(self.others))
     }
 
-    /// Takes the sequence number of a status report. If the report is on a fragment, the offset of
-    /// that is due next. Otherwise the report is complete.
+    /// Takes the sequence number of a status report. If the report is on a fragment, the fragment's
+    /// offset is due next. Otherwise the report is complete.
     fn sequence(&mut self, sequence: u64) -> DataStage
         ensures took { (result, self.new) ≡ turns.took_sequence sequence self.old }
         ensures fits { IsTrue (stage_fits result self.new) }

@@ -145,7 +145,8 @@ impl SecurityFacts {
             && (!self.has_known_targets() || self.has_target(number))
     }
 
-    /// Whether this is a block integrity block that may have the primary block as a target.
+    /// Whether this is a block integrity block that has the primary block as a target, or that
+    /// might have it, because its targets are not known.
     pub(crate) fn may_protect_primary(&self, history: &BundleHistory) -> bool
         ensures { result ≡ may_protect_primary (bundle_of history.now None 0) self.now }
     {

@@ -31,7 +31,7 @@ event_by it =
 
 -- The message has this kind. If it is no segment, the order depends on nothing else. Its flags have
 -- one byte.
-pub record IsKind (wanted : ℕ) (it : numbers.Message) : Type 0 where
+pub record IsOfKind (wanted : ℕ) (it : numbers.Message) : Type 0 where
   pub same : it.kind ≡ wanted
   pub byte : it.flags ≤ 255
 
@@ -44,13 +44,13 @@ pub record IsSegment (flags id : ℕ) (it : numbers.Message) : Type 0 where
 
 -- the numbers `it` are those of the message, as far as the order depends on them
 abbrev pub HasNumbers : Message → numbers.Message → Type 0
-HasNumbers (message.SessInit interval segment_mru transfer_mru node items) it = IsKind 7 it
+HasNumbers (message.SessInit interval segment_mru transfer_mru node items) it = IsOfKind 7 it
 HasNumbers (message.Segment head) it = IsSegment head.flags head.id it
-HasNumbers (message.Ack own acked size) it = IsKind 2 it
-HasNumbers (message.Refuse reason refused) it = IsKind 3 it
-HasNumbers message.Keepalive it = IsKind 4 it
-HasNumbers (message.SessTerm own reason) it = IsKind 5 it
-HasNumbers (message.MsgReject reason header) it = IsKind 6 it
+HasNumbers (message.Ack own acked size) it = IsOfKind 2 it
+HasNumbers (message.Refuse reason refused) it = IsOfKind 3 it
+HasNumbers message.Keepalive it = IsOfKind 4 it
+HasNumbers (message.SessTerm own reason) it = IsOfKind 5 it
+HasNumbers (message.MsgReject reason header) it = IsOfKind 6 it
 
 -- a Boolean, as a number
 abbrev pub bit : Bool → ℕ

@@ -7,7 +7,7 @@ use Rattle.link_cbor.specs.declared.head.Head.{Head as HeadItem}
 use Rattle.link_cbor.specs.Head.{Whole, front_by, head_front, whole_of}
 use Rattle.link_rules_shared.specs.declared.heads.{Found.Found, WalkStage.TheVariants.Inside}
 use Rattle.link_rules_shared.specs.Heads.{content_size}
-use Rattle.link_rules_shared.specs.HeadWalk.{HasFound, NotesHead}
+use Rattle.link_rules_shared.specs.HeadWalk.{HasFound, NotesItemHead}
 use Rattle.link_rules_shared.proofs.Walks.{found_head, or_none}
 
 abbrev pub is_small : ℕ → Bool
@@ -40,7 +40,7 @@ head_front-one_byte [] some small = absurd (omega arith)
 head_front-one_byte (byte ∷ rest) some small = rw small refl
 
 noted : (found : Found) (offset byte : ℕ) → nat_lt (byte % 32) 24 ≡ true
-    → NotesHead found found offset (head_of byte) 1
+    → NotesItemHead found found offset (head_of byte) 1
 noted found offset byte small = record {
   long = rw small (sym (or_none found.long));
   string = sym (or_none found.string);

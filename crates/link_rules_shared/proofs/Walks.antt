@@ -11,7 +11,7 @@ use Rattle.link_cbor.proofs.{HeadLaws.{head_alone, whole_stays, ill_formed_stays
 use Rattle.link_rules_shared.specs.declared.heads.{WalkStage.WalkStage, WalkStage.TheVariants.{Inside, Head, Ended}}
 use Rattle.link_rules_shared.specs.declared.heads.{Found.Found, HeadWalk.HeadWalk}
 use Rattle.link_rules_shared.specs.Heads.{content_size, is_long, is_open_string, is_open_item, is_encoded, first_from}
-use Rattle.link_rules_shared.specs.HeadWalk.{first_left, HasSought, HasFound, NotesHead, HeadScanFits, HasWalkedBy, HasWalked, TakesRun}
+use Rattle.link_rules_shared.specs.HeadWalk.{first_left, HasSought, HasFound, NotesItemHead, IsAtStage, HasWalkedBy, HasWalked, TakesRun}
 
 -- ---- the definition, step by step
 
@@ -134,7 +134,7 @@ sought_whole sought found offset seen head come within whole = record {
 found_whole : (old new : Found) (offset : ℕ) (seen : List ℕ) (head : HeadItem) (size : ℕ)
     → HasFound old (Head offset) seen → offset ≤ length seen
     → head_front (drop offset seen) ≡ Whole head (length (drop offset seen))
-    → size ≡ length (drop offset seen) → NotesHead old new offset head size
+    → size ≡ length (drop offset seen) → NotesItemHead old new offset head size
     → HasFound new (Inside (content_size head)) seen
 found_whole old new offset seen head size come within whole sized noted = record {
   long = rw (noted.long, sized) (sought_whole is_long _ offset seen head come.long within whole);
@@ -149,7 +149,7 @@ found_whole old new offset seen head size come within whole sized noted = record
 found_next : (old new : Found) (offset : ℕ) (seen run : List ℕ) (head : HeadItem) (size : ℕ)
     → HasFound old (Inside 0) seen → offset ≡ length seen
     → head_front run ≡ Whole head (length run) → size ≡ length run
-    → NotesHead old new offset head size
+    → NotesItemHead old new offset head size
     → HasFound new (Inside (content_size head)) (seen ++ run)
 found_next old new offset seen run head size come here whole sized noted =
     let rest : drop offset (seen ++ run) ≡ run = rw here (drop-append_seam seen run) in
@@ -192,7 +192,7 @@ pub found_head : (old new : Found) (offset taken size : ℕ) (seen piece : List 
     → offset ≡ length seen → taken ≤ length piece
     → whole_of (head_front (drop taken piece)) ≡ Some (head, size)
     → taken + size ≤ length piece → HasFound old (Inside 0) (seen ++ take taken piece)
-    → NotesHead old new ((offset + taken) % 2 ^ 64) head size
+    → NotesItemHead old new ((offset + taken) % 2 ^ 64) head size
     → length (seen ++ take (taken + size) piece) < 2 ^ 63
     → HasFound new (Inside (content_size head)) (seen ++ take (taken + size) piece)
 found_head old new offset taken size seen piece head here within front ends come noted small =
@@ -278,7 +278,7 @@ pub head_whole : (offset : ℕ) (found noted : Found) (old new : HeadScan) (coun
     (seen run : List ℕ) (head : HeadItem) (size : ℕ) → HasWalkedBy (Head offset) found old count seen
     → 1 ≡ length run → length (seen ++ run) < 2 ^ 63
     → head_front (drop offset (seen ++ run)) ≡ Whole head (length (drop offset (seen ++ run)))
-    → size ≡ length (drop offset (seen ++ run)) → NotesHead found noted offset head size
+    → size ≡ length (drop offset (seen ++ run)) → NotesItemHead found noted offset head size
     → HasScannedHead new []
     → HasWalkedBy (Inside (content_size head)) noted new ((count + 1) % 2 ^ 64) (seen ++ run)
 head_whole offset found noted old new count seen run head size come one small whole sized with_it
@@ -304,7 +304,7 @@ taken_then old middle new run more first second = record {
 -- ---- what is found in the bytes seen
 
 first_left-nil : (sought : HeadItem → ℕ → Bool) (stage : WalkStage) (head : HeadScan) (seen : List ℕ)
-    → HeadScanFits stage head seen → first_left sought stage seen [] ≡ None
+    → IsAtStage stage head seen → first_left sought stage seen [] ≡ None
 unfolding first_from
 first_left-nil sought (Inside left) head seen stands = refl
 first_left-nil sought (Head offset) head seen stands =
@@ -317,7 +317,7 @@ or_none (Some at) = refl
 
 pub sought_now : (sought : HeadItem → ℕ → Bool) (found : Option ℕ) (stage : WalkStage)
     (head : HeadScan) (seen : List ℕ) → HasSought sought found stage seen
-    → HeadScanFits stage head seen → found ≡ first_from sought 1 0 seen
+    → IsAtStage stage head seen → found ≡ first_from sought 1 0 seen
 sought_now sought found stage head seen come stands =
     let reads = come.reads [] in
     rw (append-nil seen, first_left-nil sought stage head seen stands, or_none found) at (sym reads)

@@ -38,7 +38,7 @@ abbrev pub noted : (sought : HeadItem → ℕ → Bool) → (old : Option ℕ) �
 noted sought old offset head size = option_or old (then_some (sought head size) offset)
 
 -- a head of `size` bytes at `offset` turns what was found, `old`, into `new`
-pub record NotesHead (old new : Found) (offset : ℕ) (head : HeadItem) (size : ℕ) : Type 0 where
+pub record NotesItemHead (old new : Found) (offset : ℕ) (head : HeadItem) (size : ℕ) : Type 0 where
   pub long : new.long ≡ noted is_long old.long offset head size
   pub string : new.string ≡ noted is_open_string old.string offset head size
   pub item : new.item ≡ noted is_open_item old.item offset head size
@@ -51,17 +51,17 @@ pub record IsInHead (head : HeadScan) (offset : ℕ) (seen : List ℕ) : Type 0 
   pub cut : head_front (drop offset seen) ≡ Cut
 
 -- the state of the scan of a head at each stage; between two heads it is new
-abbrev pub HeadScanFits : WalkStage → HeadScan → List ℕ → Type 0
-HeadScanFits (Inside left) head seen = HasScannedHead head []
-HeadScanFits (Head offset) head seen = IsInHead head offset seen
-HeadScanFits Ended head seen = Unit {0}
+abbrev pub IsAtStage : WalkStage → HeadScan → List ℕ → Type 0
+IsAtStage (Inside left) head seen = HasScannedHead head []
+IsAtStage (Head offset) head seen = IsInHead head offset seen
+IsAtStage Ended head seen = Unit {0}
 
 -- these are the parts of a walk that has seen exactly these bytes
 pub record HasWalkedBy (stage : WalkStage) (found : Found) (head : HeadScan) (count : ℕ)
     (seen : List ℕ) : Type 0 where
   pub counted : count ≡ length seen
   pub sought : HasFound found stage seen
-  pub stands : HeadScanFits stage head seen
+  pub stands : IsAtStage stage head seen
 
 -- the walk has seen exactly these bytes
 abbrev pub HasWalked : HeadWalk → List ℕ → Type 0

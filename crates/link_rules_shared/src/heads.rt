@@ -109,14 +109,14 @@ const NONE_FOUND: Found = Found {
 
 impl Found {
     ghost use Rattle.std.specs.{Bool.then_some, Option.option_or};
-    ghost use Rattle.link_rules_shared.specs.HeadWalk.{HasFound, NotesHead};
+    ghost use Rattle.link_rules_shared.specs.HeadWalk.{HasFound, NotesItemHead};
     ghost use Rattle.link_rules_shared.specs.declared.heads.WalkStage.TheVariants.{Inside};
 
     /// Keeps the offset of a head of `size` bytes, if it is the first of its kind.
     // Inlined: the head of a short string is one byte, and it should cost no call.
     #[inline(always)]
     fn note(&mut self, offset: u64, head: Head, size: usize)
-        ensures { NotesHead self.old self.new offset head size }
+        ensures { NotesItemHead self.old self.new offset head size }
     {
         if size == 1 && head.value.is_some() {
             return;
@@ -126,7 +126,7 @@ impl Found {
 
     /// Keeps the offset of any head, if it is the first of its kind.
     fn note_any(&mut self, offset: u64, head: Head, size: usize)
-        ensures { NotesHead self.old self.new offset head size }
+        ensures { NotesItemHead self.old self.new offset head size }
     {
         if is_long(head, size) {
             self.note_long(offset);

@@ -4,7 +4,7 @@ use Rattle.std.proofs.{Math.Seq.take-append-add, lemmas.Bool.{cases_Bool, cases_
 use Rattle.std.proofs.lemmas.List.{take-append-le}
 use Rattle.link_wire.specs.{Device.Input, Limits.window_size, Source.{window_of, Takes}}
 use Rattle.link_wire.specs.Stream.{End, Fault, Reading, reading_of}
-use Rattle.link_wire.specs.{Session.{IsLeft, IsUndecided, ReturnsReadEid}, declared.Source.Source}
+use Rattle.link_wire.specs.{Session.{IsLeft, IsUndecided, HasMetFault}, declared.Source.Source}
 use Rattle.link_wire.specs.declared.fault.WireFault.{WireFault}
 use Rattle.link_wire.specs.declared.fault.WireFault.TheVariants as wire
 use Rattle.link_report.specs.{Fault.fault_text}
@@ -44,7 +44,7 @@ shown_by history (b ∷ given) offset fault reading lasting is ends unshown = om
 -- at a fault of the wire, bytes were given or the input is over, so less than a window is left
 pub few_at_fault : {R : Type 0} (look : R → Input) (old new : Source R) (history given : List ℕ)
     (offset : ℕ) (fault : WireFault) (reading : Reading)
-    → Takes look old new given → ReturnsReadEid look new (history ++ given) fault reading
+    → Takes look old new given → HasMetFault look new (history ++ given) fault reading
     → reading.end ≡ Fault offset fault → shows_fault (stop_of (reading_of history).end) ≡ false
     → length (window_of new) < window_size
 few_at_fault look old new history given offset fault reading takes read ends unshown =

@@ -3,7 +3,7 @@ use Rattle.std.proofs.Common.{◌≡◌, ℕ, ◌<◌, ◌≤◌, inl, inr, true
 use Rattle.link_wire.specs.Limits.{window_size, longest_head}
 use Rattle.link_wire.specs.Source.{window_of, Takes, TakesThenStops}
 use Rattle.link_wire.specs.Stream.{End, Clean, Cut, Fault, Reading, reading_of, ended}
-use Rattle.link_wire.specs.Session.{source_of, joined, IsSessionAt, ReturnsReadEid, IsUndecided, HaveSameMessages, OnlyLastShows, AfterOpen, AfterNext, AfterLoad}
+use Rattle.link_wire.specs.Session.{source_of, joined, IsSessionAt, HasMetFault, IsUndecided, HaveSameMessages, OnlyLastShows, AfterOpen, AfterNext, AfterLoad}
 use Rattle.link_wire.specs.declared.{IoFault.IoFault, Source.Source, fault.Stop.Stop}
 use Rattle.link_wire.specs.declared.fault.Stop.TheVariants as stop
 use Rattle.link_wire.specs.declared.{fault.WireFault.WireFault, session.Session.Session}
@@ -58,7 +58,7 @@ module _ {R W E : Type 0} {look : Looks R W E} {made : List ℕ → Made} {start
   wire_fault : {given : List ℕ} (offset : ℕ) (fault : WireFault) (reading : Reading)
       (answer : Result Status IoFault)
       → Takes look.input old new given → length given ≤ most → length (window_of new) < window_size
-      → ReturnsReadEid look.input new (history ++ given) fault reading
+      → HasMetFault look.input new (history ++ given) fault reading
       → (of reading).texts ≡ (made history).texts
       → (of reading).stop ≡ Some (record { fault = Wire offset fault; lasts = is_lasting fault })
       → ((count : ℕ) → count < length given

@@ -11,7 +11,7 @@ use Rattle.link_bundle_types.specs.declared.fault.State.TheVariants as state
 use Rattle.link_bundle_types.specs.declared.info.BundleInfo.{BundleInfo}
 use Rattle.link_bundle_blocks.specs.Bundle.{opening_at, bundle_at, judged_bundle, verdict, state_of, is_going, bundle_goes, blocks_in}
 use Rattle.link_bundle_blocks.proofs.Showing.{BlocksGrow-holds}
-use Rattle.link_run_over_bundle_files.specs.Bundles.{Packed, Refusal, Longer, Faulty, Divided, IsOpen, bundle_prefix, refused_by, judged_front, with_bundle, divided_by, divided_in, divided}
+use Rattle.link_run_over_bundle_files.specs.Bundles.{Packed, Refusal, Longer, Faulty, Divided, IsUnfinishedBundle, bundle_prefix, refused_by, judged_front, with_bundle, divided_by, divided_in, divided}
 use Rattle.link_bundle.specs.{Left.stage_last, Scan.{HasScanned, ending}, Stages.stage_state}
 use Rattle.link_bundle.specs.declared.{draft.Draft.Draft, scan.BundleScan.BundleScan}
 use Rattle.link_bundle.specs.declared.stage.ScanStage.{ScanStage}
@@ -52,14 +52,14 @@ front_kept part piece front = rw (sym (front_more part piece front)) (prefix_aga
 -- before the last byte of a prefix, its bytes begin a bundle that goes on
 pub run_open : (limit : ℕ) (begun run : List ℕ) → bundle_prefix (begun ++ run) ≡ begun ++ run
     → length (begun ++ run) ≤ suc limit
-    → (count : ℕ) → count < length run → IsOpen limit (begun ++ take count run)
+    → (count : ℕ) → count < length run → IsUnfinishedBundle limit (begun ++ take count run)
 run_open limit begun run front within count less =
     let all = begun ++ run in
     let wanted = ((takes_shortest bundle_goes [] all all).1 (sym front)).wanted in
     let at = length begun + count in
     let sizes = length-append begun run in
     let size = length-take at all in
-    subst (IsOpen limit) (take-append-add begun run count) (record {
+    subst (IsUnfinishedBundle limit) (take-append-add begun run count) (record {
       front = own_front (take at all) (λ fewer short.
           ap bundle_goes (take-take fewer at all (omega (arith, size)))
           ∙ wanted fewer (omega (arith, size)));
@@ -85,7 +85,7 @@ faulty_stops front fault offset is stays = rw (is, stays) refl
 pub none_goes : bundle_goes [] ≡ true
 none_goes = rw verdict_none refl
 
-pub none_open : (limit : ℕ) → IsOpen limit []
+pub none_open : (limit : ℕ) → IsUnfinishedBundle limit []
 none_open limit =
     record { front = taken-nil bundle_goes []; goes = none_goes; within = omega arith }
 
@@ -219,7 +219,7 @@ divided_faulty limit front more fault offset is said stays within =
 
 -- the bytes end inside a bundle
 pub divided_open : (limit : ℕ) (part : List ℕ) (fault : BundleFault) (offset : ℕ)
-    → IsOpen limit part → 0 < length part → verdict part ≡ Err (fault, offset)
+    → IsUnfinishedBundle limit part → 0 < length part → verdict part ≡ Err (fault, offset)
     → (lasts fault ≡ false) × (divided limit part ≡ refused_so [] part (Faulty fault offset))
 divided_open limit part fault offset opened some said =
     let mends = going_mends (lasts fault) fault offset (rw said at opened.goes) in
@@ -228,7 +228,7 @@ divided_open limit part fault offset opened some said =
 -- ---- a byte past the limit
 
 pub too_long : (limit : ℕ) (by_blocks : Bool) (number : ℕ) (begun piece : List ℕ)
-    → IsOpen limit begun → 0 < length piece → length begun ≡ limit
+    → IsUnfinishedBundle limit begun → 0 < length piece → length begun ≡ limit
     → RefusedBundle limit by_blocks number begun (take 1 piece) (TooLong number limit)
 too_long limit by_blocks number begun [] opened some full = absurd (omega arith)
 too_long limit by_blocks number begun (byte ∷ bytes) opened some full =

@@ -6,7 +6,7 @@ use Rattle.link_bundle_types.specs.{Faults.lasts, declared.fault.BundleFault.Bun
 use Rattle.link_bundle_types.specs.declared.info.BundleInfo.{BundleInfo}
 use Rattle.link_bundle_types.specs.declared.fault.State.TheVariants as state
 use Rattle.link_bundle_blocks.specs.Bundle.{verdict, is_going, bundle_goes}
-use Rattle.link_run_over_bundle_files.specs.Bundles.{Packed, Refusal, Longer, Faulty, IsOpen, bundle_prefix, divided, with_bundles}
+use Rattle.link_run_over_bundle_files.specs.Bundles.{Packed, Refusal, Longer, Faulty, IsUnfinishedBundle, bundle_prefix, divided, with_bundles}
 use Rattle.link_run_over_bundle_files.proofs.Dividing.{prefix_again, none_open, some_stopped, refused_so, divided_whole, divided_longer, divided_faulty}
 
 -- the bytes show why they begin with no bundle that the peer takes
@@ -21,7 +21,7 @@ pub record StaysDivided (limit : ℕ) (bytes : List ℕ) : Type 0 where
   pub begun : List ℕ
   pub divides : (more : List ℕ)
       → divided limit (bytes ++ more) ≡ with_bundles bundles (divided limit (begun ++ more))
-  pub last : IsRefused limit begun ⊎ IsOpen limit begun
+  pub last : IsRefused limit begun ⊎ IsUnfinishedBundle limit begun
 
 -- a fault that stops the scan lasts
 pub stopped_lasts : (stays : Bool) (fault : BundleFault) (place : ℕ)
@@ -31,7 +31,7 @@ stopped_lasts false fault place stops = absurd (cc)
 
 module _ (limit : ℕ) where
   -- no bundle comes first
-  none_first : (bytes : List ℕ) → IsRefused limit bytes ⊎ IsOpen limit bytes → StaysDivided limit bytes
+  none_first : (bytes : List ℕ) → IsRefused limit bytes ⊎ IsUnfinishedBundle limit bytes → StaysDivided limit bytes
   none_first bytes last = record { bundles = []; begun = bytes; divides = λ more. refl; last = last }
 
   -- a prefix that needs no more bytes, by its verdict, and then the rest

@@ -6,7 +6,7 @@ use Rattle.link_bundle_types.specs.declared.fault.BundleFault.{BundleFault}
 use Rattle.link_bundle_types.specs.declared.info.BundleInfo.{BundleInfo}
 use Rattle.link_run.specs.{Made.{Made, HasLastingFaults, whole_by, shows_fault}, Run.Outcome}
 use Rattle.link_run.specs.Stages.{HasEmptyStart}
-use Rattle.link_run_over_bundle_files.specs.Bundles.{Packed, Rest, Divided, IsOpen, divided, with_bundles}
+use Rattle.link_run_over_bundle_files.specs.Bundles.{Packed, Rest, Divided, IsUnfinishedBundle, divided, with_bundles}
 use Rattle.link_run_over_bundle_files.specs.Telling.{BundleTelling, SoFar, stop_by, accepted_in, told_by, told_of}
 use Rattle.link_run_over_bundle_files.specs.BundleRun.{fault_of, cut_at, ended_by}
 use Rattle.link_run_over_bundle_files.proofs.Dividing.{whole_stops, divided_none, divided_open}
@@ -20,14 +20,14 @@ record EndsInBundle (limit : ℕ) (begun : List ℕ) : Type 0 where
   pub unshown : (number : ℕ) → shows_fault (stop_by number rest) ≡ false
 
 cut_by : (limit : ℕ) (begun : List ℕ) (said : Result BundleInfo (BundleFault × ℕ))
-    → verdict begun ≡ said → IsOpen limit begun → 0 < length begun → EndsInBundle limit begun
+    → verdict begun ≡ said → IsUnfinishedBundle limit begun → 0 < length begun → EndsInBundle limit begun
 cut_by limit begun (Ok info) is opened some =
     absurd (false≢true (sym (whole_stops begun info is) ∙ opened.goes))
 cut_by limit begun (Err (fault, offset)) is opened some =
     let parts = divided_open limit begun fault offset opened some is in
     record { rest = _; divides = parts.1; accepted = refl; unshown = λ number. parts.0 }
 
-cut_open : (limit : ℕ) (begun : List ℕ) → IsOpen limit begun → EndsInBundle limit begun
+cut_open : (limit : ℕ) (begun : List ℕ) → IsUnfinishedBundle limit begun → EndsInBundle limit begun
 cut_open limit [] opened =
     record { rest = None; divides = divided_none limit; accepted = refl; unshown = λ number. refl }
 cut_open limit (byte ∷ bytes) opened =
@@ -86,7 +86,7 @@ module _ (telling : BundleTelling) where
         (divided_now telling.limit history now.bundles now.begun divides rest is)
 
     -- a bundle that goes on
-    module _ (opened : IsOpen telling.limit now.begun) where
+    module _ (opened : IsUnfinishedBundle telling.limit now.begun) where
       pub texts_going : (told_of telling history).texts ≡ telling.texts now
       texts_going =
           let cut = cut_open telling.limit now.begun opened in

@@ -16,7 +16,7 @@ use Rattle.link_run.specs.Run.{Texts, Outcome, ◌then◌, answer_of, progress_a
 use Rattle.link_run.specs.Writers.{AfterLastWrite}
 use Rattle.link_run.specs.declared.run.{Progress.Progress, Status.Status}
 use Rattle.link_run.specs.declared.writers.Writers.{Writers}
-use Rattle.link_run_over_bundle_files.specs.Bundles.{Refusal, IsOpen, bundle_prefix, divided, with_bundles, size_of}
+use Rattle.link_run_over_bundle_files.specs.Bundles.{Refusal, IsUnfinishedBundle, bundle_prefix, divided, with_bundles, size_of}
 use Rattle.link_run_over_bundle_files.specs.Telling.{SoFar, none_yet, BundleTelling, WritesRest, with_run, with_bytes, HasNoEarlierBlockEnd, refusal_fault, lasting, stop_by, IsViewOf}
 use Rattle.link_run_over_bundle_files.specs.declared.{consumer.WholeView.WholeView, current.Current.Current}
 use Rattle.link_run_over_bundle_files.specs.declared.current.Found.{Found}
@@ -30,7 +30,7 @@ use Rattle.link_run_over_bundle_files.specs.declared.walk.Stage.TheVariants as s
 -- yet longer than the limit.
 pub record IsCurrentAt (limit : ℕ) (current : Current) (begun : List ℕ) : Type 0 where
   pub scanned : HasScanned current.scan begun
-  pub opened : IsOpen limit begun
+  pub opened : IsUnfinishedBundle limit begun
 
 -- The scan has taken the first `count` bytes of a piece after the bytes `begun`. Before each of
 -- them, more bytes were needed.
@@ -47,7 +47,7 @@ pub record BytesCome (limit : ℕ) (current : Current) (before : SoFar) (place :
     : Type 0 where
   pub numbered : current.number ≡ length before.bundles
   pub placed : place ≡ length before.begun
-  pub opened : IsOpen limit before.begun
+  pub opened : IsUnfinishedBundle limit before.begun
   pub some : 0 < length run
   pub few : length before.bundles + length (before.begun ++ run) < 2 ^ 63
   pub sized : size_of before.bundles + length (before.begun ++ run) < 2 ^ 63
@@ -79,7 +79,7 @@ pub record RefusedBundle (limit : ℕ) (by_blocks : Bool) (number : ℕ) (begun 
         bundles = [];
         rest = Some (record { accepted = begun ++ before_last run; refusal = refusal });
       }
-  pub before : (count : ℕ) → count < length run → IsOpen limit (begun ++ take count run)
+  pub before : (count : ℕ) → count < length run → IsUnfinishedBundle limit (begun ++ take count run)
   pub blocks : by_blocks ≡ true → blocks_in (begun ++ before_last run) ≡ blocks_in begun
 
 -- the fault at which an input stops, or `None` if it ends without one
@@ -140,7 +140,7 @@ has_begun stage.Begin = false
 has_begun stage.Bundles = true
 
 -- Exactly `now` has come: its bundles, and its bytes of the current bundle. The tool knows it.
-pub record HasSoFar (limit : ℕ) (knows : SoFar → Type 0) (current : Current) (now : SoFar)
+pub record HasCome (limit : ℕ) (knows : SoFar → Type 0) (current : Current) (now : SoFar)
     : Type 0 where
   pub number : current.number ≡ length now.bundles
   pub reading : IsCurrentAt limit current now.begun
@@ -153,7 +153,7 @@ module _ {R : Type 0} (look : R → Seen) (telling : BundleTelling) (knows : SoF
     pub source_at : IsSourceAt source history
     pub live : IsLive look source
     pub so_far : SoFar
-    pub holds : HasSoFar telling.limit knows current so_far
+    pub holds : HasCome telling.limit knows current so_far
     -- whatever bytes follow
     pub divides : (more : List ℕ)
         → divided telling.limit (history ++ more)
@@ -167,7 +167,7 @@ module _ {R : Type 0} (look : R → Seen) (telling : BundleTelling) (knows : SoF
     pub unread : window_of source ≡ []
     pub source_at : IsSourceAt source []
     pub live : IsLive look source
-    pub holds : HasSoFar telling.limit knows current none_yet
+    pub holds : HasCome telling.limit knows current none_yet
 
   -- the state of a run at each stage
   abbrev pub IsBundleWalkAtStage : Stage → Type 0

@@ -39,7 +39,7 @@ bundle_prefix bytes = taken bundle_goes [] bytes
 
 -- The bytes begin a bundle that needs more bytes to be whole. They are no longer than `limit`, the
 -- most bytes that a bundle may have for the peer.
-pub record IsOpen (limit : ℕ) (begun : List ℕ) : Type 0 where
+pub record IsUnfinishedBundle (limit : ℕ) (begun : List ℕ) : Type 0 where
   -- after each shorter prefix, more bytes are needed
   pub front : bundle_prefix begun ≡ begun
   -- after all of the bytes too

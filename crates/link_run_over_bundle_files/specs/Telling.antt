@@ -14,7 +14,7 @@ use Rattle.link_run.specs.Made.{StreamStop, Made}
 use Rattle.link_run.specs.Run.{Texts, ◌then◌}
 use Rattle.link_run.specs.Writers.{AfterWrite}
 use Rattle.link_run.specs.declared.writers.Writers.{Writers}
-use Rattle.link_run_over_bundle_files.specs.Bundles.{Packed, Refusal, Longer, Faulty, Rest, Divided, IsOpen, divided, size_of}
+use Rattle.link_run_over_bundle_files.specs.Bundles.{Packed, Refusal, Longer, Faulty, Rest, Divided, IsUnfinishedBundle, divided, size_of}
 use Rattle.link_run_over_bundle_files.specs.declared.consumer.{RunView.RunView, WholeView.WholeView}
 
 -- ---- where an input stops
@@ -112,7 +112,7 @@ IsViewOf bundle whole =
 
 -- with the bytes `run` after `begun`, the bundle goes on, or is whole and has this view
 abbrev pub IsAccepted : (limit : ℕ) → (begun run : List ℕ) → Option WholeView → Type 0
-IsAccepted limit begun run None = IsOpen limit (begun ++ run)
+IsAccepted limit begun run None = IsUnfinishedBundle limit (begun ++ run)
 IsAccepted limit begun run (Some whole) = IsViewOf (begun ++ run) whole
 
 -- if the scan stops at each block, no block ends in the run before its end
@@ -127,7 +127,7 @@ pub record RunViewComes (limit : ℕ) (by_blocks : Bool) (before : SoFar) (run :
   pub numbered : run.number ≡ length before.bundles
   pub placed : run.before ≡ length before.begun
   pub some : 0 < length run.bytes.now
-  pub opened : IsOpen limit before.begun
+  pub opened : IsUnfinishedBundle limit before.begun
   pub accepted : IsAccepted limit before.begun run.bytes.now run.whole
   pub scanned : HasScanned run.scan.now (before.begun ++ run.bytes.now)
   pub blocks : HasNoEarlierBlockEnd by_blocks run.scan.now before.begun run.bytes.now
@@ -139,8 +139,8 @@ pub record RunViewComes (limit : ℕ) (by_blocks : Bool) (before : SoFar) (run :
 pub record LastBytesCome (limit : ℕ) (by_blocks : Bool) (before : SoFar) (number : ℕ)
     (bytes : List ℕ) : Type 0 where
   pub numbered : number ≡ length before.bundles
-  pub opened : IsOpen limit before.begun
-  pub accepted : IsOpen limit (before.begun ++ bytes)
+  pub opened : IsUnfinishedBundle limit before.begun
+  pub accepted : IsUnfinishedBundle limit (before.begun ++ bytes)
   pub blocks : by_blocks ≡ true → blocks_in (before.begun ++ bytes) ≡ blocks_in before.begun
   pub few : length before.bundles + length (before.begun ++ bytes) < 2 ^ 63
   pub sized : size_of before.bundles + length (before.begun ++ bytes) < 2 ^ 63

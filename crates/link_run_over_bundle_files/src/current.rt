@@ -35,7 +35,7 @@ impl Current {
     ghost use Rattle.link_bundle_types.specs.BundleView.{viewed_info};
     ghost use Rattle.link_bundle_types.specs.declared.info.BundleInfo.{BundleInfo};
     ghost use Rattle.link_bundle_types.specs.ShortNames.{HasShortNames};
-    ghost use Rattle.link_run_over_bundle_files.specs.Bundles.{IsOpen};
+    ghost use Rattle.link_run_over_bundle_files.specs.Bundles.{IsUnfinishedBundle};
     ghost use Rattle.link_run_over_bundle_files.specs.BundleRun.{AddsSeen, IsCutFault, IsCurrentAt, AfterJudge, HasScannedPart, IsSomeViewOf, found_by};
 
     /// Makes the state before the first byte of the first bundle.
@@ -168,7 +168,7 @@ impl Current {
     /// It is `None` if no byte of the bundle has come.
     pub fn cut_short(&self) -> Option<Fault>
         ensures { (limit : ℕ) (begun : List ℕ) → HasScanned self.now.scan begun
-            → IsOpen limit begun → IsCutFault limit self.now.number begun result }
+            → IsUnfinishedBundle limit begun → IsCutFault limit self.now.number begun result }
     {
         if self.scan.count() == 0 {
             return None;

@@ -9,7 +9,7 @@ ghost use Rattle.link_run.specs.NewRun.{IsNewRun};
 ghost use Rattle.link_run.specs.Stages.{AfterStage, IsMore, IsRunAt};
 ghost use Rattle.link_run.specs.Writers.{place_of};
 ghost use Rattle.link_run_over_bundle_files.specs.Telling.{SoFar, none_yet, told_of};
-ghost use Rattle.link_run_over_bundle_files.specs.BundleRun.{BytesCome, AddsSeen, WritesEnd, HasSoFar, AfterJudge, IsBundleWalkAt, WritesFound, before_last, cut_at};
+ghost use Rattle.link_run_over_bundle_files.specs.BundleRun.{BytesCome, AddsSeen, WritesEnd, HasCome, AfterJudge, IsBundleWalkAt, WritesFound, before_last, cut_at};
 
 use crate::consumer::{BundleConsumer, RunView};
 use crate::current::{Current, Found};
@@ -218,7 +218,7 @@ fn finish<W: OutDevice, E: OutDevice, C: BundleConsumer>(
     writers: &mut Writers<W, E>,
     walker: &mut Walker<C>,
 ) -> Result<Status, IoFault>
-    ensures { (now : SoFar) → HasSoFar (C.telling options.now).limit
+    ensures { (now : SoFar) → HasCome (C.telling options.now).limit
         (C.knows options.now walker.old.consumer) walker.old.current now
         → WritesEnd W.state E.state (C.telling options.now) writers.old writers.new now now
         (cut_at (C.telling options.now).limit walker.old.current.number now.begun) result }

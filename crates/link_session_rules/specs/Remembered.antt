@@ -77,8 +77,8 @@ since_of first second messages =
     else if list_any second (after_first first messages) then Both
     else First
 
--- The state after one more message, from the state before it. The message may be of the first or of
--- the second kind.
+-- `since_of` after one more message, from what it was before. `is_first` and `is_second` say
+-- whether the message is of the first kind, and of the second kind.
 abbrev pub next_since : Since → (is_first is_second : Bool) → Since
 next_since Neither is_first is_second = if is_first then First else Neither
 next_since First is_first is_second = if is_second then Both else First

@@ -9,10 +9,10 @@ use Rattle.link_rules_shared.specs.declared.unread.Unread.{Unread}
 use Rattle.link_session_rules.specs.declared.rule.TransferRule.{TransferRule}
 use Rattle.link_session_rules.specs.declared.rule.TransferRule.TheVariants.{Bundle, NotRead}
 
--- whether there is an offset, and it is `byte`
-abbrev pub is_offset : Option ℕ → (byte : ℕ) → Bool
-is_offset None byte = false
-is_offset (Some offset) byte = offset == byte
+-- whether there is an offset, and it is that of byte number `at`
+abbrev pub is_offset : Option ℕ → (at : ℕ) → Bool
+is_offset None at = false
+is_offset (Some offset) at = offset == at
 
 -- Whether data with a fault at an offset may be a bundle that this toolkit does not read. `unread`
 -- has the offsets of the first heads of the kinds that it reads nowhere: no later one is reached.

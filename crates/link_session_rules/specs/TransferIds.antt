@@ -78,7 +78,7 @@ jumps_to older None = false
 jumps_to older (Some id) =
     list_any is_sess_init older && (not (is_in (last_runs older) id) && skips (ids_of older) id)
 
--- whether a message is such a START
+-- whether a message is a START with a new ID that is not the next one, after a SESS_INIT
 abbrev pub jumps : (older : List Message) → Message → Bool
 jumps older message = jumps_to older (start_id message)
 

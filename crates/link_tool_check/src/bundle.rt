@@ -71,8 +71,9 @@ impl BlockConsumer for KeptBlocks {
         (refl, history_same before more kept.begun kept.history same) };
 }
 
-/// Adds a whole block to a history. The reader has read the block's data, if data of its kind is
-/// read.
+/// Adds a whole block to a history, and what `reader` found in the block's data.
+///
+/// If this toolkit reads data of the block's type, `reader` has taken all of it before.
 #[inline(always)]
 fn add(history: &mut BundleHistory, block: &CanonicalBlock, reader: &DataReader)
     requires { read_size reader.now < 2 ^ 63 }

@@ -14,7 +14,7 @@ use Rattle.clap.specs.declared.error.{Error.Error, kind.{ErrorKind.ErrorKind, Er
 use Rattle.clap.proofs.WalkLemmas.{both}
 use Rattle.link_tools_command.proofs.Stopped.{StopsElsewhere, first_empty, not_help, walk_stops}
 use Rattle.link_tools_command.specs.Usage.{AreValidWords, IsFaultOf, is_request}
-use Rattle.link_tools_command.specs.Reading.{IsToolFault, IsToolName, HasToolName, IsFaultForKind}
+use Rattle.link_tools_command.specs.Reading.{IsUsageFaultOf, IsToolName, HasToolName, IsFaultForKind}
 use Rattle.link_tools_command.specs.declared.usage.UsageFault.{UsageFault}
 use Rattle.link_tools_command.specs.declared.usage.UsageFault.TheVariants.{Help, Words, Memory}
 
@@ -117,7 +117,7 @@ parsed command words m is fails has from =
     )
 
 pub tool_fault : (words : List Text) → AreValidWords words → (fault : UsageFault)
-    → IsToolFault (subcommand_of table words) fault → IsFaultOf words fault
+    → IsUsageFaultOf (subcommand_of table words) fault → IsFaultOf words fault
 tool_fault words taken fault (inl long) = rw long.0 (taken, long.1)
 tool_fault words taken fault (inr (inl mixed)) = rw mixed.0 (taken, mixed.1)
 tool_fault words taken fault (inr (inr (inl limited))) = rw limited.0 (taken, limited.1)

@@ -106,7 +106,7 @@ AreOptions name rows (options.BundleCheck must) = (name ≡ codes "check")
     × (must ≡ is_set (codes "must") rows)
 AreOptions name rows (options.Pack packing) = (name ≡ codes "pack") × IsPackOptions rows packing
 
--- this is the invocation of the tool of this name, by its matches
+-- the invocation is that of the tool `name`; `rows` are what `clap` matched of its arguments
 pub record IsInvokedBy (name : Text) (rows : List Row) (invocation : Invocation) : Type 0 where
   pub options : AreOptions name rows invocation.options
   pub file : option_map string_bytes invocation.file ≡ first_of (codes "file") rows

@@ -18,8 +18,8 @@ HasToolName None = ⊥
 HasToolName (Some tool) = IsToolName tool.0
 
 -- whether a fault may be returned for the matches of a tool
-abbrev pub IsToolFault : Option (Text × List Row) → UsageFault → Type 0
-IsToolFault tool fault = ((fault ≡ NodeTooLong) × (1024 < length (node_of tool)))
+abbrev pub IsUsageFaultOf : Option (Text × List Row) → UsageFault → Type 0
+IsUsageFaultOf tool fault = ((fault ≡ NodeTooLong) × (1024 < length (node_of tool)))
     ⊎ (((fault ≡ MixedInputs) × (mixes_inputs_of tool ≡ true))
     ⊎ (((fault ≡ LimitedBundles) × (limits_bundles_of tool ≡ true)) ⊎ (fault ≡ Memory)))
 

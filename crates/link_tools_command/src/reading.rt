@@ -5,7 +5,7 @@ ghost use Rattle.clap.specs.Words.{first_of, found_of, kind_of, rows_of, subcomm
 ghost use Rattle.link_tools_command.specs.Table.{table};
 ghost use Rattle.link_tools_command.specs.Invoked.{AreOptions, IsInvoked, IsInvokedBy, IsInvokedByTool, IsPackOptions, IsUnpackOptions, has_peer_limit, is_for_recordings, is_set, limits_bundles, mixes_inputs, number_in, number_of, text_of};
 ghost use Rattle.link_tools_command.specs.Usage.{AreValidWords, IsFaultOf};
-ghost use Rattle.link_tools_command.specs.Reading.{IsToolFault, IsToolName, HasToolName, IsFaultForKind};
+ghost use Rattle.link_tools_command.specs.Reading.{IsUsageFaultOf, IsToolName, HasToolName, IsFaultForKind};
 
 use crate::command::tcpclkit;
 use crate::invocation::Invocation;
@@ -50,7 +50,7 @@ pub fn options(alloc: Global, words: &[String]) -> Result<Invocation, UsageFault
 fn invocation(alloc: Global, matches: &ArgMatches<'_>) -> Result<Invocation, UsageFault>
     requires { HasToolName (subcommand_rows_of matches.now) }
     ensures ok { IfOk result (IsInvokedByTool (subcommand_rows_of matches.now)) }
-    ensures err { IfErr result (IsToolFault (subcommand_rows_of matches.now)) }
+    ensures err { IfErr result (IsUsageFaultOf (subcommand_rows_of matches.now)) }
 {
     match matches.subcommand() {
         Some((name, tool)) => invocation_of(alloc, name, tool),
@@ -63,7 +63,7 @@ fn invocation(alloc: Global, matches: &ArgMatches<'_>) -> Result<Invocation, Usa
 fn invocation_of(alloc: Global, name: &str, tool: &ArgMatches<'_>) -> Result<Invocation, UsageFault>
     requires { IsToolName name.now }
     ensures ok { IfOk result (IsInvokedBy name.now (rows_of (found_of tool.now))) }
-    ensures err { IfErr result (IsToolFault (Some (name.now, rows_of (found_of tool.now)))) }
+    ensures err { IfErr result (IsUsageFaultOf (Some (name.now, rows_of (found_of tool.now)))) }
 {
     let options = options_of(name, tool)?;
     match file(alloc, tool) {
@@ -76,7 +76,7 @@ fn invocation_of(alloc: Global, name: &str, tool: &ArgMatches<'_>) -> Result<Inv
 fn options_of(name: &str, tool: &ArgMatches<'_>) -> Result<Options, UsageFault>
     requires { IsToolName name.now }
     ensures ok { IfOk result (AreOptions name.now (rows_of (found_of tool.now))) }
-    ensures err { IfErr result (IsToolFault (Some (name.now, rows_of (found_of tool.now)))) }
+    ensures err { IfErr result (IsUsageFaultOf (Some (name.now, rows_of (found_of tool.now)))) }
 {
     match name {
         "unpack" => Ok(Options::Unpack(wanted(tool))),

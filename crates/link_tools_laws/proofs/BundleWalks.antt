@@ -7,7 +7,7 @@ use Rattle.link_bundle_types.specs.declared.info.BundleInfo.{BundleInfo}
 use Rattle.link_bundle_blocks.specs.Bundle.{verdict, bundle_goes}
 use Rattle.link_run.specs.Made.{Made, tool_of}
 use Rattle.link_run.proofs.Ends.{take-append}
-use Rattle.link_run_over_bundle_files.specs.Bundles.{Packed, Refusal, Longer, Faulty, Rest, Divided, IsOpen, refused_by, divided_by, divided, with_bundles}
+use Rattle.link_run_over_bundle_files.specs.Bundles.{Packed, Refusal, Longer, Faulty, Rest, Divided, IsUnfinishedBundle, refused_by, divided_by, divided, with_bundles}
 use Rattle.link_run_over_bundle_files.specs.Telling.{SoFar, BundleTelling, between, come_in, stop_by, with_run, told_of}
 use Rattle.link_run_over_bundle_files.proofs.Dividing.{front_more, none_open, whole_stops, faulty_stops, within_limit, beyond_limit, refused_so, divided_none, divided_front}
 use Rattle.link_run_over_bundle_files.proofs.Divisions.{IsRefused, StaysDivided, stays_divided}
@@ -72,11 +72,11 @@ module _ (telling : BundleTelling) (grows : Grows telling) where
   -- `more` comes after the bytes that have begun a bundle
   abbrev AllBegin : (count : ℕ) → Type 0
   AllBegin count =
-      (bundles : List Packed) (begun more : List ℕ) → IsOpen limit begun
+      (bundles : List Packed) (begun more : List ℕ) → IsUnfinishedBundle limit begun
       → length (begun ++ more) ≤ count → BeginsSaying bundles begun (divided limit (begun ++ more))
 
   module _ (count : ℕ) (fewer : AllBegin count) (bundles : List Packed) (begun more : List ℕ)
-      (opened : IsOpen limit begun) (few : length (begun ++ more) ≤ suc count) where
+      (opened : IsUnfinishedBundle limit begun) (few : length (begun ++ more) ≤ suc count) where
     abbrev run : List ℕ
     run = taken bundle_goes begun more
 
@@ -153,7 +153,7 @@ module _ (telling : BundleTelling) (grows : Grows telling) where
           stays = λ shown. same;
         }
 
-    texts_on : IsOpen limit begun
+    texts_on : IsUnfinishedBundle limit begun
         → AreFronts (telling.texts (now bundles begun)) (told_of telling (bytes ++ more)).texts
     unfolding told_of
     texts_on opened =
@@ -161,7 +161,7 @@ module _ (telling : BundleTelling) (grows : Grows telling) where
         (all_begin (length (begun ++ more)) bundles begun more opened (omega arith))
 
     -- another bundle has begun, and goes on
-    open_on : IsOpen limit begun → On
+    open_on : IsUnfinishedBundle limit begun → On
     open_on opened =
         let unshown = unshown_going telling bytes (now bundles begun) divides opened in
         let texts = texts_going telling bytes (now bundles begun) divides opened in

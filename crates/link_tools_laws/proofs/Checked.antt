@@ -26,7 +26,7 @@ use Rattle.link_run_over_transfers.specs.Walk.{head_at, WalkEvent, MessageHead, 
 use Rattle.link_run_judge.specs.{Transfers.Transfer, Unpacking.Told}
 use Rattle.link_tool_check.specs.Checking.{closed_rules, data_rules, Begun, heads_with, judged, latest_with, check_tool}
 use Rattle.link_tool_check.specs.Lines.{none_counts, at_offset}
-use Rattle.link_tools_laws.specs.Checked.{IsGoodOrUnread, IsAllowedTransfer, IsSecondInit, IsAllowedStop, HasOnlyAllowed}
+use Rattle.link_tools_laws.specs.Checked.{IsGoodOrUnsupported, HasGoodOrUnsupportedBundle, IsSecondInit, IsAllowedStop, HasOnlyAllowed}
 use Rattle.link_tools_laws.specs.{Cuts.{fault_at, faults_after, lined}, RoundTrip.all}
 use Rattle.link_tools_laws.specs.Transfers.{ordered_by, ordered_after, ordered, transfers_of, unpacked_of}
 use Rattle.link_tools_laws.proofs.Placed.{counts_append, options, broken_with, broken_from, good_kept, none_before, Placed, is_closed, passing, transfers_in, begun_of, due_of, rules_of, told_transfers, AfterAll, from_start}
@@ -57,7 +57,7 @@ no_must_both first second none = and_parts _ _ (rw counts_append at none)
 module _ (offset id : ℕ) (content : List ℕ) where
   data_allowed : (said : Result BundleInfo (BundleFault × ℕ))
       → NoMust (at_offset offset (data_rules id content said))
-      → IsGoodOrUnread content (judged_data said)
+      → IsGoodOrUnsupported content (judged_data said)
   unfolding data_rule none_counts rule_level transfer_level_of
   data_allowed said none = grind arith
 
@@ -66,14 +66,14 @@ module _ (offset id : ℕ) (content : List ℕ) where
       → NoMust (at_offset offset (map (λ one. rule.Transfer id one)
       (filter_map (λ judged. judged)
       (if_malformed announced ∷ if_different announced size ∷ single ∷ []))))
-      → IsGoodOrUnread content (judged_data said)
-      → IsGoodOrUnread content (judged_length announced size said)
+      → IsGoodOrUnsupported content (judged_data said)
+      → IsGoodOrUnsupported content (judged_length announced size said)
   unfolding none_counts rule_level transfer_level_of
   length_allowed announced size single said none may = grind arith
 
 closed_allowed : (placed : Placed)
     → NoMust (at_offset placed.offset (closed_rules (begun_of placed)))
-    → IsGoodOrUnread placed.transfer.content
+    → IsGoodOrUnsupported placed.transfer.content
     (judged_length (announced_of placed.transfer.first.items.items)
     (length placed.transfer.content) (verdict placed.transfer.content))
 unfolding broken_transfer_rules length_item length_differs
@@ -87,11 +87,11 @@ closed_allowed placed none =
 
 -- transfers that break no rule of level `must` once they are closed
 pub all_allowed : (placed : List Placed) → NoMust (rules_of placed)
-    → All IsAllowedTransfer (transfers_in placed)
-all_allowed [] none = All-nil IsAllowedTransfer
+    → All HasGoodOrUnsupportedBundle (transfers_in placed)
+all_allowed [] none = All-nil HasGoodOrUnsupportedBundle
 all_allowed (latest ∷ earlier) none =
     let both = no_must_both (rules_of earlier) (due_of latest) none in
-    All-cons IsAllowedTransfer latest.transfer (transfers_in earlier)
+    All-cons HasGoodOrUnsupportedBundle latest.transfer (transfers_in earlier)
     (grind (arith, closed_allowed, both.1)) (all_allowed earlier both.0)
 
 -- ---- the transfers of heads
@@ -116,9 +116,9 @@ module _ (peer : PeerLimits) (contact : Option Contact) where
         ∙ ap (λ (told : Told). told.transfers) (heads_said wanted true contact heads read)
 
     transfers_allowed : KeepsMusts heads → (wanted : Wanted)
-        → All IsAllowedTransfer (unpacked_of wanted heads).transfers
+        → All HasGoodOrUnsupportedBundle (unpacked_of wanted heads).transfers
     transfers_allowed keeps wanted =
-        subst (All IsAllowedTransfer) (same_transfers wanted)
+        subst (All HasGoodOrUnsupportedBundle) (same_transfers wanted)
         (all_allowed placed.after
         (rw placed.rules (closed_no_must (broken_from peer [] None (every heads).events) keeps)))
 
@@ -234,13 +234,13 @@ may_stop : (refused : Option (ℕ × OrderFault)) (end : End) → stop_of end �
 may_stop None end none may = rw none tt
 may_stop (Some (offset, fault)) end none may = (offset, ap (λ f. Order offset f) may)
 
-lined_allowed : (stop : Option StreamStop) (transfers : List Transfer) → All IsAllowedTransfer transfers
-    → All IsAllowedTransfer (lined stop transfers)
+lined_allowed : (stop : Option StreamStop) (transfers : List Transfer) → All HasGoodOrUnsupportedBundle transfers
+    → All HasGoodOrUnsupportedBundle (lined stop transfers)
 lined_allowed None transfers allowed = allowed
 lined_allowed (Some stop) [] allowed = allowed
 lined_allowed (Some stop) (latest ∷ earlier) allowed =
-    elim latest.closed as (λ closed. All IsAllowedTransfer (if closed then latest ∷ earlier else earlier))
-    [ true ↦ allowed | false ↦ All-tail IsAllowedTransfer latest earlier allowed ]
+    elim latest.closed as (λ closed. All HasGoodOrUnsupportedBundle (if closed then latest ∷ earlier else earlier))
+    [ true ↦ allowed | false ↦ All-tail HasGoodOrUnsupportedBundle latest earlier allowed ]
 
 -- ---- a recording
 
@@ -280,7 +280,7 @@ module _ (peer : PeerLimits) (bytes : List ℕ)
   abbrev accepted : List Entry
   accepted = (ordered heads).heads
 
-  accepted_allowed : All IsAllowedTransfer (transfers_of accepted)
+  accepted_allowed : All HasGoodOrUnsupportedBundle (transfers_of accepted)
   accepted_allowed =
       let first = all_kept heads in
       let read = first.read (reading_read bytes).heads in

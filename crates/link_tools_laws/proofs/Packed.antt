@@ -18,7 +18,7 @@ use Rattle.link_run_over_bundle_files.specs.Bundles.{Packed, Divided, divided, R
 use Rattle.link_tool_pack.specs.Packing.{packing_of, pack_tool, sending, transfer_bytes}
 use Rattle.link_tool_pack.specs.Segments.{cutting_of, Sending, cut_at, segment_bytes, segments_from}
 use Rattle.link_tools_laws.specs.{Ranges.{OptionsFit, InputFits}, RoundTrip.{all, good_lines, UnpacksToBundles}}
-use Rattle.link_tools_laws.specs.PackedStream.{TransferFits, IsGoodForPeer}
+use Rattle.link_tools_laws.specs.PackedStream.{TransferFits, IsStreamForPeer}
 use Rattle.link_tools_laws.specs.Transfers.{lines_of, are_good, by_transfers}
 use Rattle.link_tools_laws.specs.Listed.{size_of_segment, segment_lines, size_of_segments, chunks_of, term_line, bundle_lines, ListsAsPacked}
 use Rattle.link_tools_laws.proofs.Carried.{AreCarried, packed_carried, packed_transfers, onto, onto_all, rest_onto, transfer_of}
@@ -103,7 +103,7 @@ module _ (options : PackOptions) where
 -- ---- the whole
 
 pub keeps : (options : PackOptions) (bytes : List ℕ) → IsPacked options bytes
-    → IsGoodForPeer options (packed options bytes).texts.output
+    → IsStreamForPeer options (packed options bytes).texts.output
 unfolding listing_of
 keeps options bytes is =
     let bundles = onto_all options (TransferFits options) (bundle_kept options) 0 _ []

@@ -15,16 +15,16 @@ use Rattle.link_tools_laws.specs.Cuts.{faults_after, reported, reported_on, stre
 
 -- A transfer with this data is good or abandoned, or its data may be a bundle that this toolkit
 -- does not read.
-abbrev pub IsGoodOrUnread : (content : List ℕ) → Judgement → Type 0
-IsGoodOrUnread content Abandoned = Unit {0}
-IsGoodOrUnread content BadLengthItem = ⊥
-IsGoodOrUnread content (LengthDiffers announced) = ⊥
-IsGoodOrUnread content (Bad fault offset) = may_be_bundle (unread_of content) fault offset ≡ true
-IsGoodOrUnread content (Good info) = Unit {0}
+abbrev pub IsGoodOrUnsupported : (content : List ℕ) → Judgement → Type 0
+IsGoodOrUnsupported content Abandoned = Unit {0}
+IsGoodOrUnsupported content BadLengthItem = ⊥
+IsGoodOrUnsupported content (LengthDiffers announced) = ⊥
+IsGoodOrUnsupported content (Bad fault offset) = may_be_bundle (unread_of content) fault offset ≡ true
+IsGoodOrUnsupported content (Good info) = Unit {0}
 
 -- the report may have this transfer
-abbrev pub IsAllowedTransfer : Transfer → Type 0
-IsAllowedTransfer transfer = IsGoodOrUnread transfer.content (judgement_of transfer)
+abbrev pub HasGoodOrUnsupportedBundle : Transfer → Type 0
+HasGoodOrUnsupportedBundle transfer = IsGoodOrUnsupported transfer.content (judgement_of transfer)
 
 -- the fault of a head is that it is a second SESS_INIT
 abbrev pub IsSecondInit : ℕ × OrderFault → Type 0
@@ -40,8 +40,8 @@ IsAllowedStop (Some stop) = (offset : ℕ) × (stop.fault ≡ Order offset Secon
 pub record HasOnlyAllowed (bytes : List ℕ) : Type 0 where
   -- where a fault of the order ends the run
   pub stop : IsAllowedStop (stream_stop bytes)
-  pub transfers : All IsAllowedTransfer (reported bytes)
+  pub transfers : All HasGoodOrUnsupportedBundle (reported bytes)
   -- where a fault of the order does not end the run
   pub unstopped : stop_of (reading_of bytes).end ≡ None
   pub faults : All IsSecondInit (faults_after [] (heads_of (reading_of bytes)))
-  pub transfers_on : (wanted : Wanted) → All IsAllowedTransfer (reported_on wanted bytes)
+  pub transfers_on : (wanted : Wanted) → All HasGoodOrUnsupportedBundle (reported_on wanted bytes)

@@ -27,7 +27,7 @@ TransferFits options transfer =
 
 -- The stream is read without a fault, and its messages are in order. Its segments and transfers
 -- keep the limits of the peer.
-pub record IsGoodForPeer (options : PackOptions) (stream : List ℕ) : Type 0 where
+pub record IsStreamForPeer (options : PackOptions) (stream : List ℕ) : Type 0 where
   pub clean : (list_tool.whole stream).status ≡ 0
   pub in_order : ordered (heads_of (reading_of stream))
       ≡ record { heads = heads_of (reading_of stream); refused = None }

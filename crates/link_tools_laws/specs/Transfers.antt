@@ -139,8 +139,8 @@ with_head wanted before head =
 unfoldable pub unpacked_of : Wanted → List Entry → UnpackedSoFar
 unpacked_of wanted heads = fold (with_head wanted) none_unpacked heads
 
--- What `unpack` makes of a stream if a fault of the order does not end the run. Only the end of the
--- reading stops the stream. At a clean end the open transfer is abandoned.
+-- What `unpack` makes of a stream if a fault of the order does not end the run. It stops only where
+-- the reading ends with a fault. At a clean end, the open transfer is abandoned.
 abbrev pub going_on_by : Wanted → End → UnpackedSoFar → Made
 going_on_by wanted end unpacked = record {
   texts = record { output = parts_of wanted unpacked.transfers; report = unpacked.report };

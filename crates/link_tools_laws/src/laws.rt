@@ -22,7 +22,7 @@ ghost use Rattle.link_tools_laws.specs.Checked.{HasOnlyAllowed};
 ghost use Rattle.link_tools_laws.specs.Cuts.{going_on, stopping, HasEveryByte, HasEveryTakenByte, DividesOutput, DividesOutputGoingOn, IsSameIfInOrder};
 ghost use Rattle.link_tools_laws.specs.Listed.{ListsAsPacked};
 ghost use Rattle.link_tools_laws.specs.PackedRules.{AllowsLimits, KeepsInitRules, BreaksNoMore};
-ghost use Rattle.link_tools_laws.specs.PackedStream.{IsGoodForPeer};
+ghost use Rattle.link_tools_laws.specs.PackedStream.{IsStreamForPeer};
 ghost use Rattle.link_tools_laws.specs.Prefix.{HasPrefixTexts};
 ghost use Rattle.link_tools_laws.specs.Ranges.{OptionsFit, InputFits};
 ghost use Rattle.link_tools_laws.specs.RoundTrip.{all, UnpacksToBundles};
@@ -60,7 +60,7 @@ pub fn sofar_is_prefix()
 /// - No transfer has more data than the peer takes.
 /// - A length that is announced is that of its transfer.
 pub fn keeps_limits(options: &PackOptions, bytes: &[u8])
-    ensures { IsGoodForPeer options.now ((pack_tool options.now).whole bytes.now).texts.output }
+    ensures { IsStreamForPeer options.now ((pack_tool options.now).whole bytes.now).texts.output }
 {
     options_fit(options);
     input_fits(bytes);

@@ -91,7 +91,7 @@ with_value value (Err stop) = Err stop
 -- The cases of reading a type byte: none, since the input has ended before it; or this one.
 module _ {R : Type 0} where
   -- no type byte: the input ends before the next message
-  pub record GivenNoKind (look : R → Input) (old new : Source R) : Type 0 where
+  pub record EndedBeforeKind (look : R → Input) (old new : Source R) : Type 0 where
     pub takes : Takes look old new []
     pub live : IsLive look new
     pub over : IsOver look new
@@ -103,6 +103,6 @@ module _ {R : Type 0} where
 
   -- what holds after a type byte was read, by the result
   abbrev pub AfterKind : (R → Input) → Source R → Source R → Result (Option ℕ) IoFault → Type 0
-  AfterKind look old new (Ok None) = GivenNoKind look old new
+  AfterKind look old new (Ok None) = EndedBeforeKind look old new
   AfterKind look old new (Ok (Some kind)) = GivenKind look old new kind
   AfterKind look old new (Err fault) = TakesThenStops look old new [] fault

@@ -176,7 +176,7 @@ module _ {R : Type 0} where
 
   -- The whole input is read as `reading`: so are these bytes, with any bytes that may follow them
   -- (`MayFollow`). If the fault is a missing field, no byte of the input is left.
-  pub record ReturnsReadEid (look : R → Input) (source : Source R) (history : List ℕ) (fault : WireFault)
+  pub record HasMetFault (look : R → Input) (source : Source R) (history : List ℕ) (fault : WireFault)
       (reading : Reading) : Type 0 where
     pub over : fault ≡ wire.Truncated → IsOver look source
     pub all : (more : List ℕ) → MayFollow fault more → reading_of (history ++ more) ≡ reading
@@ -208,7 +208,7 @@ module _ {R : Type 0} where
     pub takes : Takes look old.source new.source given
     pub size : length given ≤ 6
     pub offset_is : offset ≡ 0
-    pub is_read : ReturnsReadEid look new.source given fault
+    pub is_read : HasMetFault look new.source given fault
         (record { contact = None; entries = []; end = Fault 0 fault })
     pub shown_last : OnlyLastShows [] given
     pub stopped : HasStopped new (stop.Wire offset fault)
@@ -258,7 +258,7 @@ module _ {R : Type 0} where
     pub takes : Takes look old.source new.source given
     pub size : length given ≤ longest_head
     pub offset_is : offset ≡ length history
-    pub is_read : ReturnsReadEid look new.source (history ++ given) fault
+    pub is_read : HasMetFault look new.source (history ++ given) fault
         (joined (reading_of history) (ended (Fault offset fault)))
     pub shown_last : OnlyLastShows history given
     pub stopped : HasStopped new (stop.Wire offset fault)

@@ -7,7 +7,7 @@ use Rattle.link_bundle_types.specs.declared.fault.State.TheVariants as state
 use Rattle.link_bundle_types.specs.{declared.info.BundleInfo.BundleInfo, Faults.lasts}
 use Rattle.link_bundle_blocks.specs.Bundle.{Bundle, judged_bundle, verdict_by, verdict, payload_of, payload_seen, state_of, is_going, bundle_goes}
 use Rattle.link_bundle_blocks.specs.Reading.{Stop}
-use Rattle.link_bundle_blocks.proofs.{Lengths.TrailingLasts-holds, Payloads.{PayloadLasts-holds, PayloadEnds-holds}}
+use Rattle.link_bundle_blocks.proofs.{Lengths.TrailingLasts-holds, Payloads.{PayloadLasts-holds, EndedPayloadStays-holds}}
 use Rattle.link_bundle.specs.{Scan.{HasScanned, HasJudged}, Stages.takes_bytes}
 use Rattle.link_bundle.specs.declared.scan.BundleScan.{BundleScan}
 use Rattle.link_bundle.proofs.Verdicts.{state_of-seen}
@@ -57,7 +57,7 @@ module _ (seen : List ℕ) (info : BundleInfo) where
       rw (
         PayloadLasts-holds seen (byte ∷ more) bundle.payload_span place,
         place,
-        PayloadEnds-holds seen (byte ∷ more) (ap (λ now. is_going (state_of (verdict_by now))) is),
+        EndedPayloadStays-holds seen (byte ∷ more) (ap (λ now. is_going (state_of (verdict_by now))) is),
       ) refl in
       record { numbers = rw (outcome, spans) refl; answers = rw outcome refl }
 

@@ -20,18 +20,18 @@ sent_by sent =
     })
 
 -- the message is this answer
-pub record IsAnswer (it : Message) (answer : Answer) : Type 0 where
+pub record IsAnswerMessage (it : Message) (answer : Answer) : Type 0 where
   pub fields : Fields
   pub has : HasFields it fields
   pub is : answer_of fields ≡ Some answer
 
 -- the message is no answer
 abbrev pub IsNoAnswer : Message → Type 0
-IsNoAnswer it = (answer : Answer) → IsAnswer it answer → ⊥
+IsNoAnswer it = (answer : Answer) → IsAnswerMessage it answer → ⊥
 
 -- the message is this answer, or no answer if the `Option` is `None`
 abbrev pub IsAnswerOrNone : Message → Option Answer → Type 0
-IsAnswerOrNone it (Some answer) = IsAnswer it answer
+IsAnswerOrNone it (Some answer) = IsAnswerMessage it answer
 IsAnswerOrNone it None = IsNoAnswer it
 
 -- the code of what is wrong with an answer, and TCPCLKIT_OK or TCPCLKIT_FAULT
@@ -41,7 +41,7 @@ answer_numbers (Err fault) = (answer_code fault, 4)
 
 -- An answer was judged by what was sent, and counted if it was accepted. `older` are the answers
 -- that were accepted before, the newest first.
-pub record ReturnsAnswer (before : Sent) (answer : Answer) (old new : SentNumbers) (status : ℕ)
+pub record ReturnsJudgedAnswer (before : Sent) (answer : Answer) (old new : SentNumbers) (status : ℕ)
     : Type 0 where
   pub numbers : new ≡ record old {
     acknowledged = (after_answer before answer).acknowledged;

@@ -2,7 +2,7 @@
 
 ghost use Rattle.std.specs.Prelude.{◌≡◌, Some, None};
 ghost use Rattle.link_transfer_answer_judge.specs.declared.answers.{Answer.Answer, Sent.Sent};
-ghost use Rattle.tcpclkit_c.specs.Answer.{sent_by, answer_numbers, IsAnswerOrNone, IsAnswer, IsNoAnswer, ReturnsAnswer};
+ghost use Rattle.tcpclkit_c.specs.Answer.{sent_by, answer_numbers, IsAnswerOrNone, IsAnswerMessage, IsNoAnswer, ReturnsJudgedAnswer};
 
 use link_ffi_numbers::fault::answer_code;
 use link_ffi_numbers::recording::Message;
@@ -64,7 +64,7 @@ fn answer_numbers(judged: Result<(), AnswerFault>) -> (u64, u32)
 #[unsafe(no_mangle)]
 pub extern "C" fn tcpclkit_raw_judge_answer(sent: &mut SentNumbers, message: &Message) -> u32
     ensures answer { (before : Sent) (answer : Answer) → sent_by sent.old ≡ Some before
-        → IsAnswer message.now answer → ReturnsAnswer before answer sent.old sent.new result }
+        → IsAnswerMessage message.now answer → ReturnsJudgedAnswer before answer sent.old sent.new result }
     ensures whole { sent_by sent.old ≡ None → (result ≡ 6) × (sent.new ≡ sent.old) }
     ensures range { IsNoAnswer message.now → (result ≡ 6) × (sent.new ≡ sent.old) }
 {

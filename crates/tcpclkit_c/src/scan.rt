@@ -247,8 +247,8 @@ fn give_late(scan: &BundleScan, answer: &mut Verdict) -> u32
     }
 }
 
-/// Writes the verdict on `count` bytes: those that the scan has seen, and those after them. Returns
-/// its status.
+/// Writes the verdict on a transfer of `count` bytes, and returns its status. The scan may have
+/// seen fewer of them, if it needed no more.
 fn give_end(scan: &BundleScan, count: u64, answer: &mut Verdict) -> u32
     ensures { (seen rest : List ℕ) → HasScanned scan.now seen → may_end seen count ≡ true
         → length (seen ++ rest) ≡ count → ReturnsVerdict (seen ++ rest) answer.new result }
@@ -259,7 +259,8 @@ fn give_end(scan: &BundleScan, count: u64, answer: &mut Verdict) -> u32
     give_verdict(scan, answer)
 }
 
-/// Writes the verdict on `count` bytes, of which the scan has seen the first. Returns its status.
+/// Writes the verdict on a transfer of `count` bytes, of which the scan has seen a prefix. Returns
+/// the status of the verdict.
 ///
 /// If the memory does not begin with [`MARK`], or if [`may_end`] is false, writes nothing and
 /// returns `RANGE`.

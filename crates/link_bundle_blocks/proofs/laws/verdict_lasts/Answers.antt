@@ -1,5 +1,5 @@
 use Rattle.link_bundle_blocks.proofs.Lengths.{FaultLasts-holds, TrailingLasts-holds}
-use Rattle.link_bundle_blocks.proofs.Payloads.{PayloadLasts-holds, SpanDeterminesPayload-holds, PayloadEnds-holds}
+use Rattle.link_bundle_blocks.proofs.Payloads.{PayloadLasts-holds, SpanDeterminesPayload-holds, EndedPayloadStays-holds}
 use Rattle.link_bundle_blocks.proofs.laws.verdict_lasts.Goals as goal
 
 pub returns : goal.returns
@@ -8,5 +8,5 @@ returns c = record {
   trailing = TrailingLasts-holds;
   payload = PayloadLasts-holds;
   placed = SpanDeterminesPayload-holds;
-  ends = PayloadEnds-holds;
+  ends = EndedPayloadStays-holds;
 }
