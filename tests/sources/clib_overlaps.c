@@ -131,12 +131,12 @@ CALL(write_primary) {
   return tcpclkit_write_primary(A(bundle, 2), 2, S(3), S(4), S(5), S(0), A(written, 1));
 }
 CALL(write_block_head) { return tcpclkit_write_block_head(A(block, 2), S(0), A(written, 1)); }
-CALL(feed_check) { return tcpclkit_feed_check(A(check, 0), S(1)); }
+CALL(feed_check) { return tcpclkit_feed_check(A(crc, 0), S(1)); }
 CALL(end_check) {
   (void)lent;
-  return tcpclkit_end_check(A(check, 1), N(0));
+  return tcpclkit_end_check(A(crc, 1), N(0));
 }
-CALL(write_check) { return tcpclkit_write_check(A(check, 2), S(0), A(written, 1)); }
+CALL(write_check) { return tcpclkit_write_check(A(crc, 2), S(0), A(written, 1)); }
 CALL(write_eid) { return tcpclkit_write_eid(A(eid, 2), S(3), S(0), A(written, 1)); }
 CALL(write_age) { return tcpclkit_write_age(5, S(0), A(written, 1)); }
 CALL(write_hop_count) { return tcpclkit_write_hop_count(30, 2, S(0), A(written, 1)); }
@@ -207,9 +207,9 @@ static const struct call calls[] = {
     {"write_primary", write_primary, 6,
      {INTO(99), STRUCT(bundle, READ, &fields), BYTES(name), BYTES(name), BYTES(name)}},
     {"write_block_head", write_block_head, 3, {INTO(54), STRUCT(block, READ, &counting)}},
-    {"feed_check", feed_check, 2, {STRUCT(check, WRITTEN, &begun), BYTES(bundle)}},
-    {"end_check", end_check, 2, {NUMBER(CLEARED), STRUCT(check, READ, &begun)}},
-    {"write_check", write_check, 3, {INTO(5), STRUCT(check, READ, &begun)}},
+    {"feed_check", feed_check, 2, {STRUCT(crc, WRITTEN, &begun), BYTES(bundle)}},
+    {"end_check", end_check, 2, {NUMBER(CLEARED), STRUCT(crc, READ, &begun)}},
+    {"write_check", write_check, 3, {INTO(5), STRUCT(crc, READ, &begun)}},
     {"write_eid", write_eid, 4, {INTO(9), STRUCT(eid, READ, &eid), BYTES(name)}},
     {"write_age", write_age, 2, {INTO(9)}},
     {"write_hop_count", write_hop_count, 2, {INTO(27)}},

@@ -49,7 +49,7 @@ CALL(primary) {
   return tcpclkit_write_primary(A(bundle, 0), TCPCLKIT_CHECK_CRC16, S(1), S(2), S(3), INTO);
 }
 CALL(block_head) { return tcpclkit_write_block_head(A(block, 0), INTO); }
-CALL(check) { return tcpclkit_write_check(A(check, 0), INTO); }
+CALL(check) { return tcpclkit_write_check(A(crc, 0), INTO); }
 CALL(eid) { return tcpclkit_write_eid(A(eid, 0), S(1), INTO); }
 CALL(age) {
   (void)given;
