@@ -30,8 +30,8 @@ pub struct CanonicalBlock {
 impl CanonicalBlock {
     ghost use Rattle.link_bundle_blocks.specs.Whole.{moved};
 
-    /// Returns the block with its two offsets counted from `count` bytes earlier. `end` stays as it
-    /// is.
+    /// Returns the block with `start` and `data_start` counted from `count` bytes earlier. `end` is
+    /// not moved.
     #[inline(always)]
     pub fn moved(self, count: u64) -> CanonicalBlock
         requires start { count + self.start < 2 ^ 64 }

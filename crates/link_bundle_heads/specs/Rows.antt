@@ -112,6 +112,8 @@ dtn_by major (Some value) =
     if (major == 0) && (value == 0) then Ok None else
     (if major == 3 then wanted (nat_le value 1024) (Some value) EidTooLong else Err BadSpecificPart)
 
+-- what the head after the scheme number of a dtn endpoint ID says: the length of its name, or
+-- `None` for dtn:none
 unfoldable pub dtn_part : Head → Result (Option ℕ) BundleFault
 dtn_part head = dtn_by head.major head.value
 

@@ -108,8 +108,8 @@ fn is_hidden(history: &BundleHistory, block: &BlockFacts) -> bool
     history.is_hidden_block(block.block_type, block.number)
 }
 
-/// The rule that an extension block or a security block breaks by malformed data, if that cannot be
-/// ciphertext.
+/// The rule that is broken by malformed data of an extension block or a security block, unless the
+/// data may be ciphertext.
 pub(crate) fn if_malformed_extension(
     history: &BundleHistory,
     block: &BlockFacts,

@@ -29,8 +29,8 @@ event_by it =
     else if it.kind == 1 then event.Segment it.flags it.id
     else event.Other
 
--- The message has this kind. If it is no segment, the order depends on nothing else. Its flags have
--- one byte.
+-- The message has this kind, and its flags fit in one byte. Unless it is a segment, the judgement
+-- of its order depends on nothing else.
 pub record IsOfKind (wanted : ℕ) (it : numbers.Message) : Type 0 where
   pub same : it.kind ≡ wanted
   pub byte : it.flags ≤ 255

@@ -77,8 +77,8 @@ fn primary_shown(block: &PrimaryBlock<'_>) -> BlockNumbers
     }
 }
 
-/// The numbers of a canonical block. `data_seen` is how many bytes of its data have come. Its
-/// length is 0 if the block is not whole.
+/// The numbers of a canonical block. `data_seen` is how many bytes of the block's data have come.
+/// The `length` of a block that is not whole is 0.
 fn canonical_shown(block: &CanonicalBlock, data_seen: u64) -> BlockNumbers
     ensures { result ≡ canonical_shown block.now data_seen }
 {

@@ -92,7 +92,7 @@ impl KeptCheck {
         true
     }
 
-    /// The check value of the bytes that were fed, if the numbers are those of a check.
+    /// The check value of the bytes that were fed, or `None` if the caller's struct is no check.
     pub fn value(&self) -> Option<u32>
         ensures value { (kind : CheckKind) (bytes : List ℕ) → IsKeptCheckAt kind self.now bytes
             → result ≡ Some (crc kind bytes) }

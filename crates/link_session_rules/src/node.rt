@@ -146,7 +146,8 @@ fn ends_in_zero(part: &[u8]) -> bool
     last.iter().all(|digit| *digit == b'0')
 }
 
-/// How strictly a node ID that has the syntax of its scheme is forbidden, or `None` if it is not.
+/// The level of the rule that forbids a node ID, or `None` if no rule does. The node ID has the
+/// syntax of its scheme; `part` is what follows the colon.
 #[tactic(auto, unfolding(crate::specs::NodeIds::name_level))]
 fn name_level(scheme: &[u8], part: &[u8]) -> Option<Level>
     ensures { result ≡ name_level scheme.now part.now }

@@ -134,8 +134,8 @@ fn write_contact<W: OutDevice, E: OutDevice>(
     }
 }
 
-/// Writes the lines of the rules that a head breaks after the heads of the history. Then it adds
-/// the head to the history.
+/// Judges a head by the heads before it, which the history has kept, and writes a line for each
+/// rule that it breaks. Then adds the head to the history.
 #[inline(always)]
 fn judge<W: OutDevice, E: OutDevice>(
     options: &CheckOptions,
