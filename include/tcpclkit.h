@@ -973,7 +973,7 @@ struct tcpclkit_sent {
  *
  * Proved of tcpclkit_raw_judge_answer: the status and `fault` are `judged_answer` of what was sent
  * and of the message, and `acknowledged` is that of `after_answer`. So after some answers that were
- * accepted (`IsAcknowledgedByAnswers`), `acknowledged` is the length in the last XFER_ACK among
+ * accepted (`HasLengthOfLastAck`), `acknowledged` is the length in the last XFER_ACK among
  * them, or 0.
  */
 uint32_t tcpclkit_raw_judge_answer(struct tcpclkit_sent *sent,
@@ -1319,7 +1319,7 @@ static inline uint32_t tcpclkit_write_check(const struct tcpclkit_crc *check, ui
  * The statuses are those of tcpclkit_write_contact; TCPCLKIT_RANGE as for tcpclkit_write_eid_text.
  *
  * Proved of tcpclkit_raw_write_eid: the bytes are `eid_bytes`, and those after them stay.
- * `NodeReadsBack`: as the data of a previous node block they are read as this endpoint ID.
+ * `PreviousNodeReadsBack`: as the data of a previous node block they are read as this endpoint ID.
  */
 uint32_t tcpclkit_raw_write_eid(const struct tcpclkit_eid *eid, const uint8_t *name,
                                 size_t name_length, uint8_t *bytes, size_t room,
@@ -1341,7 +1341,7 @@ static inline uint32_t tcpclkit_write_eid(const struct tcpclkit_eid *eid, const 
  * The statuses are those of tcpclkit_write_contact. No age is out of range.
  *
  * Proved of tcpclkit_raw_write_age: the bytes are `age_bytes`, and those after them stay.
- * `AgeReadsBack`: they are read as this age.
+ * `BundleAgeReadsBack`: they are read as this age.
  */
 uint32_t tcpclkit_raw_write_age(uint64_t age, uint8_t *bytes, size_t room,
                                 struct tcpclkit_written *written);
@@ -1432,9 +1432,9 @@ static inline uint32_t tcpclkit_write_eid_text(const struct tcpclkit_eid *eid, c
  * every name. TCPCLKIT_RANGE: no endpoint ID has this text. Then each field is 0.
  *
  * Proved of tcpclkit_raw_read_eid_text: after TCPCLKIT_OK, `eid_text` of the endpoint ID is the
- * text (`IsTextOf`), and the bytes of the slice after the name stay. `OneText`: except for the name
- * `none`, no other endpoint ID has this text. After TCPCLKIT_RANGE, no endpoint ID with a name of
- * at most TCPCLKIT_EID_LIMIT bytes has this text (`IsNoText`).
+ * text (`IsTextOf`), and the bytes of the slice after the name stay. `TextDeterminesEid`: except
+ * for the name `none`, no other endpoint ID has this text. After TCPCLKIT_RANGE, no endpoint ID
+ * with a name of at most TCPCLKIT_EID_LIMIT bytes has this text (`IsNoText`).
  */
 uint32_t tcpclkit_raw_read_eid_text(const uint8_t *text, size_t length, struct tcpclkit_eid *eid,
                                     uint8_t *name, size_t name_room);
@@ -1861,8 +1861,8 @@ static inline uint32_t tcpclkit_pack(const uint8_t *bytes, size_t length,
  * UINT64_MAX, since the IDs could then run out.
  *
  * Proved of tcpclkit_raw_pack_more: as for tcpclkit_raw_pack, of `more_tool` of the options and the
- * bytes. `HasTextsOfMore`: what tcpclkit_pack writes is the contact header and SESS_INIT, then what
- * this call writes with the first ID 0, and then SESS_TERM, if it is asked for.
+ * bytes. `IsPreludeThenPackMore`: what tcpclkit_pack writes is the contact header and SESS_INIT,
+ * then what this call writes with the first ID 0, and then SESS_TERM, if it is asked for.
  * `SegmentsDifferOnlyInIds`: with another first ID, the segments are the same except for their IDs.
  * All IDs fit, since an input has no more bundles than bytes (`HasNoMoreBundlesThanBytes`).
  */

@@ -610,7 +610,7 @@ class Scan(_State):
     def end(self, length):
         """Returns the verdict on a whole transfer of `length` bytes, after its last byte.
 
-        These are the bytes that were taken, and those that came after them:
+        These are the bytes that were taken, and bytes after them that were not needed:
 
             came = 0
             for piece in pieces:

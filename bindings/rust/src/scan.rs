@@ -134,8 +134,8 @@ impl Scan {
         Verdict::of(status, &it, |place| place)
     }
 
-    /// The verdict on a whole transfer, after its last byte: on `length` bytes as one bundle, those
-    /// that were taken and those that came after them.
+    /// The verdict on a whole transfer of `length` bytes as one bundle, after its last byte. The
+    /// bytes are the ones that were taken, and bytes after them that were not needed.
     ///
     /// If the bundle still needed bytes, the fault is [`BundleCut`](crate::Code::BundleCut). If more
     /// came than the bundle has, it is [`BundleTrailing`](crate::Code::BundleTrailing).

@@ -5,7 +5,7 @@
 #![tactic(auto)]
 
 ghost use Rattle.std.specs.Prelude.{◌≡◌, false, length};
-ghost use Rattle.link_transfer.specs.Cutter.{cut_waits};
+ghost use Rattle.link_transfer.specs.Cutter.{has_ready_chunk};
 
 use link_transfer::Cutter;
 use std::alloc::{AllocError, Global};
@@ -50,7 +50,7 @@ fn next(piece: &mut [u8; PIECE]) {
 /// Takes the chunks that are ready, and returns the sum of their samples.
 #[inline(always)]
 fn take_chunks(cutter: &mut Cutter) -> u64
-    ensures { cut_waits cutter.new ≡ false }
+    ensures { has_ready_chunk cutter.new ≡ false }
 {
     let mut answer = 0u64;
     while let Some(_cut) = cutter.cut() {

@@ -2,7 +2,7 @@
 use Rattle.std.specs.Prelude.{ℕ, ◌+◌, ◌-◌, ◌^◌, min, Bool, true, List, [], ◌∷◌, ◌++◌, decimal, if◌then◌else◌}
 use Rattle.link_run.specs.Writers.{on_output}
 use Rattle.link_run_over_transfers.specs.Walk.{WalkEvent, MessageHead, Data, Whole, closes, is_beginning}
-use Rattle.link_run_over_transfers.specs.Saying.{Keeping}
+use Rattle.link_run_over_transfers.specs.Saying.{StatefulTool}
 
 -- How many bytes of the latest transfer's data have come. The count ends at 2^64 - 1.
 abbrev pub size_after : (size : ℕ) → WalkEvent → ℕ
@@ -19,7 +19,7 @@ line_of size (MessageHead head) = line_if (closes head) (size_after size (Messag
 line_of size Whole = line_if true size
 line_of size event = []
 
-abbrev pub sizes : Keeping ℕ
+abbrev pub sizes : StatefulTool ℕ
 sizes = record {
   start = 0;
   next = size_after;

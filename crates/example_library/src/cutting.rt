@@ -1,7 +1,7 @@
 //! Writes a bundle as the segments of a transfer.
 
 ghost use Rattle.std.specs.Prelude.{◌≡◌, false, OnOk};
-ghost use Rattle.link_transfer.specs.Cutter.{cut_waits};
+ghost use Rattle.link_transfer.specs.Cutter.{has_ready_chunk};
 
 use link_transfer::{Cut, Cutter};
 use link_wire::{END, HeadBuf, START, put_segment_head};
@@ -30,8 +30,8 @@ pub fn put_transfer(
     id: u64,
     bundle: &[u8],
 ) -> Result<(), AllocError>
-    requires { cut_waits cutter.old ≡ false }
-    ensures { OnOk result (cut_waits cutter.new ≡ false) }
+    requires { has_ready_chunk cutter.old ≡ false }
+    ensures { OnOk result (has_ready_chunk cutter.new ≡ false) }
 {
     let mut taken = 0;
     while taken < bundle.len() {

@@ -20,7 +20,7 @@ use Rattle.link_bundle.specs.declared.stage.ScanStage.TheVariants.{BlockHeads, B
 use Rattle.link_bundle.specs.Fits.{same_kind, has_block, stage_fits, hold_fits, part_goes, scan_fits}
 use Rattle.link_bundle.specs.Left.{primary_of, with_known_payload, current, last_block, stage_last, block_end, read_alone, after_block, in_block, stage_left}
 use Rattle.link_bundle.specs.Stages.{stage_after, stage_after_data, stage_in_data, stage_state, takes_bytes}
-use Rattle.link_bundle.specs.Scan.{IfCheckCovers, IsAtStage, IsInData, HasScannedBy, TakesRun, HasDraftedPrimary, part_start}
+use Rattle.link_bundle.specs.Scan.{IfCheckCovers, ScanStageFits, IsInData, HasScannedBy, TakesRun, HasDraftedOrHeldPrimary, part_start}
 use Rattle.link_bundle.proofs.Steps.{at_stage, fits_at, fits_stage, grown_reads, all_grown, primary_kept}
 use Rattle.link_bundle.proofs.Taking.{takes_on, ends_here}
 
@@ -109,7 +109,7 @@ no_field kind before = (refl, refl)
 
 nothing_held : (payload : Option (ℕ × ℕ)) (draft : Draft) (cursor : Cursor) (seen : List ℕ)
     → cursor.hold ≡ []
-    → IsAtStage (stage_after payload) cursor draft seen
+    → ScanStageFits (stage_after payload) cursor draft seen
 nothing_held None draft cursor seen none = record {
   front = seen;
   covered = [];
@@ -182,7 +182,7 @@ in_data_stands : (some : Bool) (check : Option CheckKind) (payload : Option (ℕ
     (draft : Draft) (cursor : Cursor) (seen : List ℕ) (left : ℕ) → nat_lt 0 left ≡ some
     → draft.block.check ≡ check → cursor.count ≡ length seen
     → IsInData left cursor draft.block seen
-    → IsAtStage (if some then BlockData left else stage_after_data check payload) cursor draft seen
+    → ScanStageFits (if some then BlockData left else stage_after_data check payload) cursor draft seen
 in_data_stands true check payload draft cursor seen left some is count at = at
 in_data_stands false (Some kind) payload draft cursor seen left some is count at =
     let none = ltb-false 0 left some in
@@ -203,7 +203,7 @@ in_data_stands false None payload draft cursor seen left some is count at =
 pub entered : {stage : ScanStage} {cursor : Cursor} {draft : Draft} {before : List Block}
     {seen : List ℕ}
     → AreBytes seen → cursor.count ≡ length seen → cursor.hold ≡ []
-    → IsAtStage stage cursor draft seen → HasDraftedPrimary cursor draft seen
+    → ScanStageFits stage cursor draft seen → HasDraftedOrHeldPrimary cursor draft seen
     → ((more : List ℕ) → judged_bundle (seen ++ more)
     ≡ with_blocks before (with_blocks (stage_last stage draft cursor.count)
     (stage_left stage draft cursor.count (seen ++ more))))
@@ -222,7 +222,7 @@ entered {stage = stage} {cursor = cursor} {draft = draft} {before = before} {see
 -- in the data of a block, which has `left` bytes left
 pub in_data : {cursor : Cursor} {draft : Draft} {before : List Block} {seen : List ℕ} (left : ℕ)
     → AreBytes seen → cursor.count ≡ length seen → IsTrue (has_block draft)
-    → IsInData left cursor draft.block seen → HasDraftedPrimary cursor draft seen
+    → IsInData left cursor draft.block seen → HasDraftedOrHeldPrimary cursor draft seen
     → ((more : List ℕ) → judged_bundle (seen ++ more)
     ≡ with_blocks before (in_block draft (seen ++ more)))
     → HasScannedBy (stage_in_data left draft.block.check draft.payload_span) cursor draft before seen
@@ -246,7 +246,7 @@ in_data-fits left cursor draft none has =
 
 -- after a whole block
 pub after_block-seen : {cursor : Cursor} {draft : Draft} {before : List Block} {seen : List ℕ}
-    → AreBytes seen → cursor.count ≡ length seen → cursor.hold ≡ [] → HasDraftedPrimary cursor draft seen
+    → AreBytes seen → cursor.count ≡ length seen → cursor.hold ≡ [] → HasDraftedOrHeldPrimary cursor draft seen
     → ((more : List ℕ) → judged_bundle (seen ++ more)
     ≡ with_blocks before (with_blocks (last_block draft cursor.count ∷ [])
     (after_block draft (seen ++ more) cursor.count)))

@@ -9,7 +9,7 @@ use Rattle.link_bundle.specs.declared.stage.ScanStage.TheVariants.{BlockHeads, B
 use Rattle.link_bundle_blocks.specs.Blocks.{Block, PrimaryOf, CanonicalOf, LiesWithin, ended}
 use Rattle.link_bundle_blocks.specs.Bundle.{blocks_in}
 use Rattle.link_bundle.specs.Left.{last_block, primary_of, stage_last}
-use Rattle.link_bundle.specs.Scan.{HasScanned, Advances, AddsBlock, ending, scan_size}
+use Rattle.link_bundle.specs.Scan.{HasScanned, Advances, EndsBlockOnlyAtLastByte, ending, scan_size}
 use Rattle.link_cbor.proofs.Joins.{joined_run}
 use Rattle.link_bundle_blocks.proofs.Lying.{BlocksWithin-holds}
 use Rattle.link_bundle_blocks.proofs.Showing.{BlocksGrow-holds}
@@ -50,7 +50,7 @@ none_added scan count earlier (found ∷ rest) more below within ends =
 
 -- no block ends with fewer bytes
 pub none_sooner : (old new : BundleScan) (piece seen : List ℕ) (count fewer : ℕ)
-    → HasScanned old seen → Advances old new piece count → AddsBlock old new piece count
+    → HasScanned old seen → Advances old new piece count → EndsBlockOnlyAtLastByte old new piece count
     → fewer < count → blocks_in (seen ++ take fewer piece) ≡ blocks_in seen
 none_sooner old new piece seen count fewer come advances adds below =
     let run = take fewer piece in

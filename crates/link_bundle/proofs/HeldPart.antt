@@ -24,7 +24,7 @@ use Rattle.link_bundle.specs.declared.stage.ScanStage.{ScanStage}
 use Rattle.link_bundle.specs.declared.stage.ScanStage.TheVariants.{PrimaryBlock, BlockHeads, BlockData, CheckField, Break, Ended, Failed}
 use Rattle.link_bundle.specs.Fits.{is_kind, scan_fits, stage_fits}
 use Rattle.link_bundle.specs.Left.{primary_of, stage_block, stage_last, stage_left, read_alone, with_known_payload}
-use Rattle.link_bundle.specs.Scan.{HasScannedBy, IsHoldingPart, IsAtStage, IsPlaced, part_start}
+use Rattle.link_bundle.specs.Scan.{HasScannedBy, IsHoldingPart, ScanStageFits, HasPartAfter, part_start}
 use Rattle.link_bundle.specs.Stages.{end_of, is_cut, is_part, part_reading}
 use Rattle.link_bundle.proofs.{StageParts.stage_part, Steps.fits_stage}
 
@@ -47,7 +47,7 @@ has_part come part = come.stands
 
 pub at_part : (stage : ScanStage) {cursor : Cursor} {draft : Draft} {seen : List ℕ}
     → IsTrue (is_part stage) → IsHoldingPart stage cursor draft seen
-    → IsAtStage stage cursor draft seen
+    → ScanStageFits stage cursor draft seen
 at_part (BlockData left) part has = absurd (false≢true part)
 at_part Ended part has = absurd (false≢true part)
 at_part (Failed fault offset) part has = absurd (false≢true part)
@@ -115,7 +115,7 @@ field_left kind block front bytes has end begun =
 pub stage_stopped : (stage : ScanStage) (draft : Draft) (front covered bytes : List ℕ)
     (fault : BundleFault) (offset : ℕ)
     → IsTrue (is_part stage) → IsTrue (stage_fits stage draft)
-    → IsPlaced stage draft front covered
+    → HasPartAfter stage draft front covered
     → part_reading stage draft.numbers covered bytes ≡ Err (stopped fault offset)
     → stage_left stage draft (length front) (front ++ bytes)
     ≡ with_known_payload draft.payload_span

@@ -15,7 +15,7 @@ use Rattle.link_bundle.specs.{Stages.{stage_state, takes_bytes}, declared.cursor
 use Rattle.link_bundle.specs.declared.{draft.Draft.Draft, scan.BundleScan.BundleScan}
 use Rattle.link_bundle.specs.declared.stage.ScanStage.{ScanStage}
 use Rattle.link_bundle.specs.declared.stage.ScanStage.TheVariants.{Failed}
-use Rattle.link_bundle_blocks.proofs.{Lengths.TrailingLasts-holds, Payloads.EndedPayloadStays-holds}
+use Rattle.link_bundle_blocks.proofs.{Lengths.ByteAfterBundleIsTrailing-holds, Payloads.PayloadStaysAfterBundleEnd-holds}
 use Rattle.link_bundle.proofs.Verdicts.{state_of-seen}
 
 -- ---- the state
@@ -46,7 +46,7 @@ ended_here (state.Failed fault offset) idle may = absurd (false≢true may)
 trailing_stuck : (bytes : List ℕ) (byte : ℕ) (outcome : Result BundleInfo (BundleFault × ℕ))
     → verdict bytes ≡ outcome → state_of outcome ≡ state.Ended
     → takes_bytes (state_of (verdict (bytes ++ byte ∷ []))) ≡ false
-trailing_stuck bytes byte (Ok info) is ended = rw (TrailingLasts-holds bytes [] byte info is) refl
+trailing_stuck bytes byte (Ok info) is ended = rw (ByteAfterBundleIsTrailing-holds bytes [] byte info is) refl
 trailing_stuck bytes byte (Err (fault, offset)) is ended = absurd (other (lasts fault) ended)
   where
     other : (test : Bool) → (if test then state.Failed fault offset else state.Going) ≡ state.Ended
@@ -190,7 +190,7 @@ module _ (scan : BundleScan) (content : List ℕ) (now : HasJudged scan content)
   pub payload_judged : payload_in now.seen ≡ payload_in content
   payload_judged = ⊎_elim
       (λ (all : now.rest ≡ []). ap payload_in (all_seen all))
-      (λ stuck. sym (EndedPayloadStays-holds now.seen now.rest
+      (λ stuck. sym (PayloadStaysAfterBundleEnd-holds now.seen now.rest
       (stuck_stops scan now.seen now.scanned stuck))
       ∙ ap payload_in now.parts)
       now.enough

@@ -12,7 +12,7 @@ use Rattle.link_bundle.specs.declared.{cursor.Cursor.Cursor, draft.Draft.Draft, 
 use Rattle.link_bundle.specs.declared.stage.ScanStage.TheVariants.{PrimaryBlock, BlockHeads, CheckField, Break}
 use Rattle.link_bundle.specs.Fits.{has_block, is_kind, scan_fits}
 use Rattle.link_bundle.specs.{Left.{current, stage_last, stage_left, with_block}, Stages.{is_part, stage_state, takes_bytes}}
-use Rattle.link_bundle.specs.Scan.{HasScannedBy, PartLeadsTo, Advances, AddsBlock, part_start}
+use Rattle.link_bundle.specs.Scan.{HasScannedBy, PartLeadsTo, Advances, EndsBlockOnlyAtLastByte, part_start}
 use Rattle.link_bundle.proofs.HeldPart.{length-front, kind_of, some_of, field_left}
 use Rattle.link_bundle.proofs.Steps.{append-hold, all_held, fits_at, fits_stage, grown_reads, all_grown, primary_kept}
 use Rattle.link_bundle.proofs.TakenPart.{TakesPart, fit, same_start, inside, front}
@@ -165,7 +165,7 @@ pub whole_part : {stage : ScanStage} (old after : BundleScan) {piece : List ℕ}
     → PartLeadsTo stage old.draft mid size after.stage after.draft after.cursor.check
     → after.cursor.hold ≡ [] → after.cursor.count ≡ part_start mid + size
     → Advances old after piece (size - length old.cursor.hold)
-    × AddsBlock old after piece (size - length old.cursor.hold)
+    × EndsBlockOnlyAtLastByte old after piece (size - length old.cursor.hold)
 whole_part {stage = stage} old after {piece = piece} {mid = mid} {size = size} is are read none
     count =
     let run = take (size - length old.cursor.hold) piece in

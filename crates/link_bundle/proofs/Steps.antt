@@ -17,7 +17,7 @@ use Rattle.link_bundle_blocks.proofs.Blocks.{none_before}
 pub use Rattle.link_bundle_blocks.proofs.Seen.{AreBytes-append as all_grown, AreBytes-one as one_byte, AreBytes-slice as slice_bytes}
 use Rattle.link_bundle.specs.Fits.{hold_fits, part_goes, scan_fits, stage_fits}
 use Rattle.link_bundle.specs.Left.{bundle_of, primary_of, span_of, stage_last, stage_left, with_known_payload}
-use Rattle.link_bundle.specs.Scan.{HasScannedBy, HasScanned, HasDraftedPrimary, part_start}
+use Rattle.link_bundle.specs.Scan.{HasScannedBy, HasScanned, HasDraftedOrHeldPrimary, part_start}
 
 -- ---- a scan whose stage is known
 
@@ -65,14 +65,14 @@ front_bytes count piece each = All-take (λ (b : ℕ). b < 256) count piece (sli
 
 -- a draft that has the primary block keeps it
 pub primary_kept : (old new : Cursor) (draft : Draft) (seen run : List ℕ) → draft.whole ≡ true
-    → HasDraftedPrimary old draft seen → HasDraftedPrimary new draft (seen ++ run)
+    → HasDraftedOrHeldPrimary old draft seen → HasDraftedOrHeldPrimary new draft (seen ++ run)
 primary_kept old new draft seen run whole keeps =
     let kept = rw whole at keeps in
     rw whole (λ more. rw (append_assoc seen run more) (kept (run ++ more)))
 
 -- the fields of a primary block that is whole
 pub fields_whole : (cursor : Cursor) (draft : Draft) (seen : List ℕ) → draft.whole ≡ true
-    → HasDraftedPrimary cursor draft seen → primary_fields seen ≡ all_fields (primary_of draft)
+    → HasDraftedOrHeldPrimary cursor draft seen → primary_fields seen ≡ all_fields (primary_of draft)
 fields_whole cursor draft seen whole keeps =
     let kept = rw whole at keeps in
     ap primary_fields (sym (append-nil seen)) ∙ kept []

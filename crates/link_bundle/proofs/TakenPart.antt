@@ -19,8 +19,8 @@ use Rattle.link_bundle.specs.declared.{scan.BundleScan.BundleScan, stage.ScanSta
 use Rattle.link_bundle.specs.declared.stage.ScanStage.TheVariants.{Failed}
 use Rattle.link_bundle.specs.Fits.{hold_fits, part_goes, scan_fits, stage_fits}
 use Rattle.link_bundle.specs.Left.{primary_of, stage_last, stage_left}
-use Rattle.link_bundle.specs.Scan.{HasScannedBy, HasScanned, TakesRun, IsHoldingPart, IsAtStage, Advances, AddsBlock, part_start}
-use Rattle.link_bundle.specs.Stages.{limit, HasCovered, IsLeastShown, is_cut, is_part, any_reading, part_reading, stage_state, takes_bytes}
+use Rattle.link_bundle.specs.Scan.{HasScannedBy, HasScanned, TakesRun, IsHoldingPart, ScanStageFits, Advances, EndsBlockOnlyAtLastByte, part_start}
+use Rattle.link_bundle.specs.Stages.{limit, IfAtCheckFieldCovered, IsLeastNotCutShort, is_cut, is_part, any_reading, part_reading, stage_state, takes_bytes}
 use Rattle.link_bundle.proofs.HeldPart.{has_part, at_part, part_stopped, goes_in_part}
 use Rattle.link_bundle.proofs.StageParts.{any_part, stage_part, cut_front, same_front, same_more, ends_within, ends_after}
 use Rattle.link_bundle.proofs.Steps.{at_stage, fits_at, all_grown, grown_reads}
@@ -45,7 +45,7 @@ grown : {stage : ScanStage} {old new : Cursor} {draft : Draft} {before : List Bl
     → ((more : List ℕ) → judged_bundle ((seen ++ run) ++ more)
     ≡ with_blocks (after ++ stage_last next draft (part_start new))
     (stage_left next draft (part_start new) ((seen ++ run) ++ more)))
-    → IsAtStage next new draft (seen ++ run)
+    → ScanStageFits next new draft (seen ++ run)
     → HasScannedBy next new draft after (seen ++ run)
 grown {old = old} {new = new} {draft = draft} {seen = seen} next after run come are hold count reads
     stands = record {
@@ -187,10 +187,10 @@ cut_fits {stage = stage} {old = old} {mid = mid} holds cut =
 pub cut_part : {stage : ScanStage} (old after : BundleScan) {piece : List ℕ} (offset : ℕ)
     → HoldsMore stage old piece after.cursor → 0 < length piece → AreBytes piece
     → after.stage ≡ stage → after.draft ≡ old.draft
-    → ((covered : List ℕ) → HasCovered stage after.cursor.check covered
+    → ((covered : List ℕ) → IfAtCheckFieldCovered stage after.cursor.check covered
     → part_reading stage old.draft.numbers covered after.cursor.hold ≡ Err (stopped Cut offset))
     → Advances old after piece (length after.cursor.hold - length old.cursor.hold)
-    × AddsBlock old after piece (length after.cursor.hold - length old.cursor.hold)
+    × EndsBlockOnlyAtLastByte old after piece (length after.cursor.hold - length old.cursor.hold)
 cut_part {stage = stage} old after {piece = piece} offset holds some are at draft_is fails =
     let mid = after.cursor in
     let is : TakesPart stage old piece mid (length mid.hold) =
@@ -233,10 +233,10 @@ module _ {stage : ScanStage} (old after : BundleScan) {piece : List ℕ} {mid : 
     (is : TakesPart stage old piece mid size) (draft_is : after.draft ≡ old.draft)
     (are : AreBytes piece)
     {fault : BundleFault} {offset : ℕ} (lasting : lasts fault ≡ true)
-    (fails : (covered : List ℕ) → HasCovered stage mid.check covered
+    (fails : (covered : List ℕ) → IfAtCheckFieldCovered stage mid.check covered
     → part_reading stage old.draft.numbers covered mid.hold ≡ Err (stopped fault offset))
-    (first : (covered : List ℕ) → HasCovered stage mid.check covered
-    → IsLeastShown (part_reading stage old.draft.numbers covered) (length old.cursor.hold) size
+    (first : (covered : List ℕ) → IfAtCheckFieldCovered stage mid.check covered
+    → IsLeastNotCutShort (part_reading stage old.draft.numbers covered) (length old.cursor.hold) size
     mid.hold) where
   fault_shown : {seen : List ℕ} (has : IsHoldingPart stage old.cursor old.draft seen)
       → let reading = part_reading stage old.draft.numbers has.covered in
@@ -244,7 +244,7 @@ module _ {stage : ScanStage} (old after : BundleScan) {piece : List ℕ} {mid : 
       × (is_cut (reading (take (size - 1) mid.hold)) ≡ true)
   fault_shown has =
       let part = stage_part stage old.draft.numbers has.covered is.holds.part in
-      let covers : HasCovered stage mid.check has.covered = rw (is.holds.check) has.covers in
+      let covers : IfAtCheckFieldCovered stage mid.check has.covered = rw (is.holds.check) has.covers in
       let there = fails has.covered covers in
       let begins : take (length old.cursor.hold) mid.hold ≡ old.cursor.hold =
       ap (λ (bytes : List ℕ). take (length old.cursor.hold) bytes) is.holds.hold
@@ -271,7 +271,7 @@ module _ {stage : ScanStage} (old after : BundleScan) {piece : List ℕ} {mid : 
       → after.cursor.hold ≡ take size mid.hold → after.cursor.count ≡ part_start mid + size
       → old.cursor.count + length piece ≤ 2 ^ 63 - 1
       → Advances old after piece (size - length old.cursor.hold)
-      × AddsBlock old after piece (size - length old.cursor.hold)
+      × EndsBlockOnlyAtLastByte old after piece (size - length old.cursor.hold)
   unfolding stage_left
   fault_part at hold counts small =
       let holds = is.holds in

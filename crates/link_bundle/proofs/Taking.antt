@@ -4,13 +4,13 @@ use Rattle.std.proofs.Common.{◌≡◌, ℕ, ◌+◌, ◌-◌, ◌<◌, ◌≤�
 use Rattle.std.specs.Prelude.{◌==◌, if◌then◌else◌}
 use Rattle.std.proofs.lemmas.{Bool.{cases_lt, cases_Bool, false≢true}, List.length-take-le}
 use Rattle.link_bundle_types.specs.{declared.fault.BundleFault.BundleFault, declared.info.BundleInfo.BundleInfo, Faults.lasts}
-use Rattle.link_bundle_blocks.proofs.Lengths.{FaultLasts-holds, TrailingLasts-holds}
+use Rattle.link_bundle_blocks.proofs.Lengths.{FaultLasts-holds, ByteAfterBundleIsTrailing-holds}
 use Rattle.link_bundle.specs.declared.{cursor.Cursor.Cursor, draft.Draft.Draft}
 use Rattle.link_bundle.specs.declared.{scan.BundleScan.BundleScan, stage.ScanStage.ScanStage}
 use Rattle.link_bundle.specs.declared.stage.ScanStage.TheVariants.{BlockHeads, Break}
 use Rattle.link_bundle_blocks.specs.{Blocks.Block, Bundle.{blocks_in, bundle_goes, is_going, state_of, verdict}}
 use Rattle.link_bundle.specs.{Left.stage_last, Stages.{follows_block, takes_bytes}}
-use Rattle.link_bundle.specs.Scan.{HasScannedBy, HasScanned, TakesRun, MayTakePiece, Advances, AddsBlock, ending_at, ending, may_scan, part_start, scan_size}
+use Rattle.link_bundle.specs.Scan.{HasScannedBy, HasScanned, TakesRun, MayTakeFromPiece, Advances, EndsBlockOnlyAtLastByte, ending_at, ending, may_scan, part_start, scan_size}
 use Rattle.link_cbor.proofs.Joins.{joined_run}
 use Rattle.link_bundle.proofs.{Steps.at_stage, Verdicts.{blocks_of-seen, state_of-seen}}
 
@@ -106,7 +106,7 @@ wanted_by : (bytes more : List ℕ) (now : Result BundleInfo (BundleFault × ℕ
     → is_going (state_of now) ≡ true
 wanted_by bytes [] now is some may = absurd (omega arith)
 wanted_by bytes (byte ∷ more) (Ok info) is some may =
-    absurd (false≢true (rw (TrailingLasts-holds bytes more byte info is) at may))
+    absurd (false≢true (rw (ByteAfterBundleIsTrailing-holds bytes more byte info is) at may))
 wanted_by bytes (byte ∷ more) (Err (fault, offset)) is some may = ⊎_elim
     (λ lasting. absurd (false≢true
     (rw (FaultLasts-holds bytes (byte ∷ more) fault offset lasting is, lasting) at may)))
@@ -145,7 +145,7 @@ pub ends_part : {old new : BundleScan} {stage : ScanStage} {piece : List ℕ} {c
     → ((before : List Block) (seen : List ℕ) → HasScannedBy stage old.cursor old.draft before seen
     → IsAfter new (before ++ stage_last stage old.draft (part_start old.cursor))
     (seen ++ take count piece))
-    → Advances old new piece count × AddsBlock old new piece count
+    → Advances old new piece count × EndsBlockOnlyAtLastByte old new piece count
 ends_part {old = old} {new = new} {piece = piece} {count = count} at some within none size may
     goes =
     let taken : TakesRun old new (take count piece) =
@@ -154,7 +154,7 @@ ends_part {old = old} {new = new} {piece = piece} {count = count} at some within
     (λ before seen come. rw at (goes before seen (at_stage old at come))) in
     (advances_by some within may taken, taken.blocks)
 
-pub one_taken : (old new : BundleScan) (piece : List ℕ) → MayTakePiece old piece
+pub one_taken : (old new : BundleScan) (piece : List ℕ) → MayTakeFromPiece old piece
     → TakesRun old new (get_or piece 0 0 ∷ []) → Advances old new piece 1
 one_taken old new [] may taken = absurd (omega (arith, may.some))
 one_taken old new (byte ∷ rest) may taken =
@@ -194,8 +194,8 @@ fed_on old mid new piece count more first second = record {
 -- if no block ended with the first part
 pub adds_on : (old mid new : BundleScan) (piece : List ℕ) (count more : ℕ)
     → HasFed old mid piece count → ending mid ≡ []
-    → AddsBlock old mid piece count → AddsBlock mid new (drop count piece) more
-    → AddsBlock old new piece (count + more)
+    → EndsBlockOnlyAtLastByte old mid piece count → EndsBlockOnlyAtLastByte mid new (drop count piece) more
+    → EndsBlockOnlyAtLastByte old new piece (count + more)
 adds_on old mid new piece count more fed none first second seen come =
     ap blocks_in (sym (joined_run seen piece count more))
     ∙ second (seen ++ take count piece) (fed.seen seen come)

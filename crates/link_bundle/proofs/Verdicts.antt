@@ -17,7 +17,7 @@ use Rattle.link_bundle_blocks.specs.Bundle.{Bundle, with_blocks, judged_bundle, 
 use Rattle.link_bundle.specs.Left.{bundle_of, current, span_of, with_known_payload, stage_block, stage_last, stage_left}
 use Rattle.link_bundle_blocks.proofs.Blocks.{verdict_by-blocks, payload_of-blocks, blocks_of-blocks, cut_block_of-blocks}
 use Rattle.link_bundle_blocks.proofs.Runs.{content_at-cut}
-use Rattle.link_bundle.specs.Scan.{HasScannedBy, HasScanned, MayTakePiece, ending, part_start, scan_size}
+use Rattle.link_bundle.specs.Scan.{HasScannedBy, HasScanned, MayTakeFromPiece, ending, part_start, scan_size}
 use Rattle.link_bundle.specs.Stages.{is_part, stage_state, takes_bytes}
 use Rattle.link_bundle.proofs.{HeldPart.{has_part, part_stopped, read_alone-stopped}, Steps.fits_stage}
 
@@ -195,7 +195,7 @@ still_going stage may other = refl
 
 -- a scan that needs more bytes may take some
 pub may_at : {scan : BundleScan} {piece : List ℕ} → is_going (stage_state scan.stage) ≡ true
-    → 0 < length piece → scan_size scan + length piece ≤ 2 ^ 63 - 1 → MayTakePiece scan piece
+    → 0 < length piece → scan_size scan + length piece ≤ 2 ^ 63 - 1 → MayTakeFromPiece scan piece
 may_at going some room = record {
   goes = λ seen come. ap is_going (sym (state_of-seen come)) ∙ going;
   some = some;

@@ -20,7 +20,7 @@ use Rattle.link_bundle.specs.declared.{cursor.Cursor.Cursor, draft.Draft.Draft, 
 use Rattle.link_bundle.specs.declared.stage.ScanStage.TheVariants.{PrimaryBlock, BlockHeads, Ended}
 use Rattle.link_bundle.specs.Fits.{has_block, scan_fits}
 use Rattle.link_bundle.specs.Left.{HasPrimary, primary_of, bundle_of, with_block, stage_last, last_block, block_end, read_alone, with_known_payload, after_block, in_block, stage_left}
-use Rattle.link_bundle.specs.Scan.{HasScannedBy, HasScanned, Advances, IfCheckCovers, HasDraftedPrimary, part_start}
+use Rattle.link_bundle.specs.Scan.{HasScannedBy, HasScanned, Advances, IfCheckCovers, HasDraftedOrHeldPrimary, part_start}
 use Rattle.link_bundle.specs.Stages.{stage_after, stage_in_data}
 use Rattle.link_bundle.proofs.Steps.{all_held, at_stage, fits_at, fits_stage, all_grown, grown_reads, primary_kept}
 use Rattle.link_bundle.proofs.{HeldPart.none_of, Taking.bundle_goes-take, Steps.append-hold}
@@ -89,7 +89,7 @@ primary_come {old = old} {new = new} {after = after} {before = before} {seen = s
     none no_numbers now counts nothing =
     let bytes = seen ++ run in
     let size : new.count ≡ length bytes = omega (arith, counts, come.count, length-append seen run) in
-    let keeps : HasDraftedPrimary new after bytes =
+    let keeps : HasDraftedOrHeldPrimary new after bytes =
     rw now (λ more. primary_fields-whole bytes more (primary_of after) after.check (length bytes) whole) in
     subst (λ (payload : Option (ℕ × ℕ)). HasScannedBy (stage_after payload) new after before bytes) none
     (after_block-seen (all_grown seen run come.all_bytes are) size nothing keeps

@@ -25,8 +25,9 @@ is_kind (Some found) kind = same_kind found kind
 abbrev pub has_block : Draft → Bool
 has_block draft = draft.whole && not (length draft.numbers == 0)
 
--- Whether the draft has what belongs to the stage. It has the numbers of the canonical blocks whose
--- heads were read, and the place of the payload if the last of them is the payload block.
+-- Whether the draft contains what belongs to the stage. It contains the numbers of the canonical
+-- blocks whose heads were read, and the place of the payload if the latest of these blocks is the
+-- payload block. After a fault, the fault must last, and the draft does not matter.
 abbrev pub stage_fits : ScanStage → Draft → Bool
 stage_fits PrimaryBlock draft =
     is_none draft.payload_span && (not draft.whole && length draft.numbers == 0)
@@ -42,8 +43,8 @@ abbrev pub hold_fits : ScanStage → Cursor → Bool
 hold_fits (Failed fault offset) cursor = true
 hold_fits stage cursor = nat_lt (length cursor.hold) (limit stage)
 
--- whether the held bytes end inside the part, if the stage has one; `numbers` are those of the
--- blocks before
+-- Whether the held bytes end inside the part. At a stage without a part it is `true`. `numbers` are
+-- the numbers of the blocks before.
 abbrev pub part_goes : ScanStage → (numbers hold : List ℕ) → Bool
 part_goes stage numbers hold = not (is_part stage) || is_cut (any_reading stage numbers hold)
 

@@ -49,7 +49,8 @@ with_primary draft block = record draft {
   check = block.check;
 }
 
--- the draft with a canonical block whose heads were read
+-- The draft with a canonical block whose heads were read. If it is the payload block (type 1), the
+-- place of the payload is now known.
 abbrev pub with_block : Draft → CanonicalBlock → Draft
 with_block draft block = record draft {
   block = block;
@@ -57,11 +58,12 @@ with_block draft block = record draft {
   payload_span = then_some (block.block_type == 1) (block.data_start, block.data_length);
 }
 
--- the offset and the length of the payload, or zeros that no result shows
+-- The offset and the length of the payload. If they are not known, they are zeros here. A whole
+-- bundle has a payload, so no result shows the zeros.
 abbrev pub span_of : Option (ℕ × ℕ) → ℕ × ℕ
 span_of payload = unwrap_or payload (0, 0)
 
--- the bundle of a draft that is whole and ends before `end`, without its blocks
+-- A whole bundle with the fields of the draft. It ends before `end`. Its blocks are left out.
 abbrev pub bundle_of : Draft → ℕ → Bundle
 bundle_of draft end =
     let payload = span_of draft.payload_span in
@@ -81,14 +83,15 @@ with_known_payload (Some payload) reading = with_payload payload reading
 abbrev pub current : Draft → CanonicalBlock
 current draft = record draft.block { end = None }
 
--- The block that ended last, before `end`. It is the primary block until the data of a canonical
--- block has begun.
+-- The latest block that ended, with the end `end`. It is the primary block until the heads of a
+-- canonical block were read.
 abbrev pub last_block : Draft → ℕ → Block
 last_block draft end =
     if length draft.numbers == 0 then PrimaryOf (primary_of draft) draft.check end
     else CanonicalOf (ended draft.block end)
 
--- the block that ended last, as a list: `[]` at a stage that does not begin where a block ends
+-- The latest block that ended, as a list. It is `[]` at a stage that does not begin where a block
+-- ends.
 abbrev pub stage_last : ScanStage → Draft → ℕ → List Block
 stage_last BlockHeads draft start = last_block draft start ∷ []
 stage_last Break draft start = last_block draft start ∷ []

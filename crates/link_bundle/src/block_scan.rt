@@ -7,21 +7,22 @@ use link_bundle_blocks::{BlockView, CanonicalBlock, whole_canonical};
 use link_cbor::Piecewise;
 
 impl BundleScan {
-    ghost use Rattle.link_bundle_blocks.specs.Blocks.{viewed_blocks, viewed_block, IsShortBlock};
+    ghost use Rattle.link_bundle_blocks.specs.Blocks.{viewed_blocks, viewed_block, IfPrimaryHasShortEids};
     ghost use Rattle.link_bundle.specs.Stages.{follows_block};
     ghost use Rattle.link_bundle_blocks.specs.Bundle.{cut_block_in, bundle_goes};
-    ghost use Rattle.link_bundle.specs.Scan.{HasScanned, MayTakePiece, Advances, AddsBlock, ending, may_scan};
+    ghost use Rattle.link_bundle.specs.Scan.{HasScanned, MayTakeFromPiece, Advances, EndsBlockOnlyAtLastByte, ending, may_scan};
 
     /// Takes the next bytes of a piece, until a block ends or no more bytes are needed.
     ///
-    /// Returns how many it took, at least one. The scan needs more bytes, and the piece has some.
+    /// Returns how many it took, at least one. Before the call, the scan must need more bytes, and
+    /// the piece must contain some.
     #[inline(always)]
     pub fn feed_block(&mut self, piece: &[u8]) -> usize
         requires may_step { IsTrue (may_scan self.old) }
-        requires may_take { MayTakePiece self.old piece.now }
+        requires may_take { MayTakeFromPiece self.old piece.now }
         ensures taken { Advances self.old self.new piece.now result }
         // A block may end with the last byte taken, and none ends before.
-        ensures blocks { AddsBlock self.old self.new piece.now result }
+        ensures blocks { EndsBlockOnlyAtLastByte self.old self.new piece.now result }
         ensures stops { (seen : List ℕ) → HasScanned self.old seen
             → ending self.new ≡ [] → result < length piece.now
             → bundle_goes (seen ++ take result piece.now) ≡ false }
@@ -33,15 +34,16 @@ impl BundleScan {
         taken
     }
 
-    /// Takes the next bytes of a piece while more are needed, and returns how many, at least one.
+    /// Takes the next bytes of a piece, and returns how many, at least one.
     ///
-    /// It takes a whole block if the piece begins with one, or else a part of one.
+    /// The scan must need more bytes. Before the first byte of a block, it tries to take the whole
+    /// block at once. Otherwise, or if that fails, it takes bytes of one stage.
     #[inline(always)]
     fn advance_block(&mut self, piece: &[u8]) -> usize
         requires may_step { IsTrue (may_scan self.old) }
-        requires may_take { MayTakePiece self.old piece.now }
+        requires may_take { MayTakeFromPiece self.old piece.now }
         ensures advances { Advances self.old self.new piece.now result }
-        ensures blocks { AddsBlock self.old self.new piece.now result }
+        ensures blocks { EndsBlockOnlyAtLastByte self.old self.new piece.now result }
     {
         match self.stage {
             ScanStage::PrimaryBlock if self.cursor.count == 0 => self.advance_primary(piece),
@@ -50,15 +52,17 @@ impl BundleScan {
         }
     }
 
-    /// Takes the first bytes of a bundle: up to the end of its primary block if the piece has all
-    /// of it, or else a part of it.
+    /// Takes the first bytes of a bundle, and returns how many, at least one.
+    ///
+    /// It tries to take the whole primary block at once. If that fails, it takes bytes up to the
+    /// end of the block at most.
     #[inline(never)]
     fn advance_primary(&mut self, piece: &[u8]) -> usize
         requires stage { self.old.stage ≡ ScanStage.PrimaryBlock }
         requires begins { self.old.cursor.hold ≡ [] }
-        requires may_take { MayTakePiece self.old piece.now }
+        requires may_take { MayTakeFromPiece self.old piece.now }
         ensures advances { Advances self.old self.new piece.now result }
-        ensures blocks { AddsBlock self.old self.new piece.now result }
+        ensures blocks { EndsBlockOnlyAtLastByte self.old self.new piece.now result }
     {
         match self.draft.whole_primary(piece) {
             Ok((check, size)) => {
@@ -72,15 +76,17 @@ impl BundleScan {
         }
     }
 
-    /// Takes the first bytes of a canonical block: the whole block if the piece has it, or else its
-    /// heads or a part of them.
+    /// Takes the first bytes of a canonical block, and returns how many, at least one.
+    ///
+    /// It tries to take the whole block at once. If that fails, it takes bytes up to the end of the
+    /// block's heads at most.
     #[inline(never)]
     fn advance_canonical(&mut self, piece: &[u8]) -> usize
         requires stage { self.old.stage ≡ ScanStage.BlockHeads }
         requires begins { self.old.cursor.hold ≡ [] }
-        requires may_take { MayTakePiece self.old piece.now }
+        requires may_take { MayTakeFromPiece self.old piece.now }
         ensures advances { Advances self.old self.new piece.now result }
-        ensures blocks { AddsBlock self.old self.new piece.now result }
+        ensures blocks { EndsBlockOnlyAtLastByte self.old self.new piece.now result }
     {
         match whole_canonical(&self.draft.numbers, piece, 0) {
             Ok((block, size)) => {
@@ -93,7 +99,7 @@ impl BundleScan {
         }
     }
 
-    /// Whether a block ends with the bytes seen.
+    /// Whether the last byte seen is the last byte of a block.
     #[inline(always)]
     fn ends_block(&self) -> bool
         ensures { result ≡ (follows_block self.now.stage && length self.now.cursor.hold == 0) }
@@ -101,11 +107,11 @@ impl BundleScan {
         self.stage.follows_block() && self.cursor.hold.len() == 0
     }
 
-    /// The block that ends with the bytes seen, if one does.
+    /// The block whose last byte is the last byte seen, if there is one.
     #[inline(always)]
     pub fn ended_block(&self) -> Option<BlockView<'_>>
         ensures block { viewed_blocks result ≡ ending self.now }
-        ensures short { IfSome result (λ block. IsShortBlock (viewed_block block)) }
+        ensures short { IfSome result (λ block. IfPrimaryHasShortEids (viewed_block block)) }
     {
         if !self.ends_block() {
             return None;

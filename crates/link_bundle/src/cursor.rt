@@ -25,11 +25,14 @@ impl Cursor {
         Cursor {
             count: 0,
             hold: Hold::new(),
+            // Its kind does not matter: each block with a check begins its own.
             check: Check::new(CheckKind::Crc16),
         }
     }
 
-    /// Makes the cursor one that stands before the first byte of a bundle.
+    /// Moves the cursor before the first byte of a bundle.
+    ///
+    /// The old check stays until a block with a check begins its own.
     pub fn restart(&mut self)
         ensures count { self.new.count ≡ 0 }
         ensures hold { self.new.hold ≡ [] }
@@ -47,9 +50,13 @@ impl Cursor {
         self.count - self.hold.len() as u64
     }
 
-    /// Takes the bytes of a piece into the hold, until that has `limit` bytes.
+    /// Takes bytes of a piece into the hold, until `limit` bytes are held or the piece ends.
     ///
     /// Returns the number of bytes that were held before.
+    ///
+    /// The hold has room for 3,257 bytes (`PRIMARY_LIMIT`): the byte before a primary block, three
+    /// endpoint IDs of 1,051 bytes, ten heads of 9, and a check field of 13. These are the greatest
+    /// lengths.
     pub fn take_in(&mut self, piece: &[u8], limit: usize) -> usize
         requires room { self.old.count + length piece.now ≤ 2 ^ 63 - 1 }
         requires within { length self.old.hold ≤ limit }
@@ -69,6 +76,8 @@ impl Cursor {
     }
 
     /// Gives back the held bytes after the first `size`, as if they had not been seen.
+    ///
+    /// They were not pushed to the check, so it stays as it is.
     #[inline(always)]
     pub fn give_back(&mut self, size: usize)
         requires within { size ≤ length self.old.hold }
@@ -96,7 +105,9 @@ impl Cursor {
         self.hold.clear();
     }
 
-    /// Begins the check of a canonical block, whose heads are the first `size` bytes held.
+    /// Begins the check of a canonical block, and pushes the block's heads to it.
+    ///
+    /// The heads are the first `size` bytes held. For a block without a check, nothing changes.
     pub fn begin_check(&mut self, check: Option<CheckKind>, size: usize)
         requires { size ≤ length self.old.hold }
         ensures checks { IfCheckCovers check self.new.check (take size self.old.hold) }
@@ -109,7 +120,7 @@ impl Cursor {
         }
     }
 
-    /// Takes bytes of a block's data, in a block that has this check.
+    /// Takes bytes of a block's data, and pushes them to the block's check if it has one.
     #[inline(always)]
     pub fn data_run(&mut self, check: Option<CheckKind>, run: &[u8])
         requires { self.old.count + length run.now ≤ 2 ^ 63 - 1 }

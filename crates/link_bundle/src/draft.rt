@@ -24,7 +24,7 @@ pub(crate) struct Draft {
     pub fragment: Option<(u64, u64)>,
     /// The kind of the primary block's check, if it has one.
     pub check: Option<CheckKind>,
-    /// The last canonical block whose heads were read.
+    /// The latest canonical block whose heads were read.
     pub block: CanonicalBlock,
     /// The numbers of the canonical blocks whose heads were read.
     pub numbers: BlockNumbers,
@@ -69,9 +69,9 @@ impl Draft {
         }
     }
 
-    /// Makes the draft that of a bundle before its first byte.
+    /// Prepares the draft for the first byte of a bundle.
     ///
-    /// A field keeps its value if the parts of the next bundle set it before it is read.
+    /// Some fields keep their old values. The next bundle sets them before they are read.
     pub fn restart(&mut self)
         ensures { IsTrue (stage_fits ScanStage.PrimaryBlock self.new) }
     {
@@ -125,7 +125,7 @@ impl Draft {
         }
     }
 
-    /// The last canonical block, which ends before the offset `end`.
+    /// The latest canonical block, which ends before the offset `end`.
     #[inline(always)]
     pub fn canonical_block(&self, end: u64) -> CanonicalBlock
         ensures { result ≡ ended self.now.block end }
@@ -135,7 +135,9 @@ impl Draft {
         block
     }
 
-    /// The canonical block whose data or check field goes on at a stage.
+    /// The canonical block that a scan is in, if the stage is in the block's data or check field.
+    ///
+    /// The end of the block is not known yet.
     #[inline(always)]
     pub fn block_at(&self, stage: ScanStage) -> Option<CanonicalBlock>
         ensures { result ≡ stage_block stage self.now }
@@ -150,7 +152,7 @@ impl Draft {
         }
     }
 
-    /// Keeps the fields of the primary block.
+    /// Keeps the fields of the primary block, which is now whole.
     pub fn keep_primary(&mut self, block: PrimaryBlock<'_>)
         requires { HasShortEids (viewed_primary block) }
         ensures { self.new ≡ with_primary self.old block.entry }
@@ -174,6 +176,8 @@ impl Draft {
     ghost use Rattle.link_bundle.specs.Stages.{stage_after, stage_in_data};
 
     /// Keeps a canonical block whose heads were read.
+    ///
+    /// If it is the payload block, the place of the payload is now known.
     #[inline(always)]
     pub fn keep_block(&mut self, block: CanonicalBlock)
         requires room { length self.old.numbers < 64 }
@@ -187,7 +191,7 @@ impl Draft {
         ));
     }
 
-    /// The stage after a block: that of the next block, or of the break after the payload block.
+    /// The stage after a block: the heads of the next block, or the break after the payload block.
     #[inline(always)]
     pub fn after_block(&self) -> ScanStage
         ensures { result ≡ stage_after self.now.payload_span }
@@ -200,6 +204,8 @@ impl Draft {
     }
 
     /// The stage in the current block's data, of which `left` bytes are left.
+    ///
+    /// If none are left, it is the stage after the data.
     #[inline(always)]
     pub fn in_data(&self, left: u64) -> ScanStage
         ensures { result ≡ stage_in_data left self.now.block.check self.now.payload_span }

@@ -3,7 +3,7 @@
 //! A part is read from all bytes that are held. If that is a fault, fewer of them may show it. The
 //! scan takes only as many as do, so that a caller has the rest.
 ghost use Rattle.std.specs.Prelude.{◌≡◌, ℕ, ◌+◌, ◌<◌, ◌≤◌, ◌^◌, IsTrue, List, length, Ok, Err, false, MatchResult};
-ghost use Rattle.link_bundle.specs.Stages.{is_part, is_cut, any_reading, part_end, part_reading, HasCovered, IsLeastShown};
+ghost use Rattle.link_bundle.specs.Stages.{is_part, is_cut, any_reading, part_end, part_reading, IfAtCheckFieldCovered, IsLeastNotCutShort};
 ghost use Rattle.link_bundle_types.specs.Faults.{lasts};
 ghost use Rattle.link_bundle_blocks.specs.Reading.{stopped};
 ghost use Rattle.link_bundle.specs.Scan.{PartLeadsTo};
@@ -15,7 +15,8 @@ use link_bundle_blocks::{PartFault, break_at, check_field_at, next_block_at, pri
 use link_bundle_types::{BlockNumbers, BundleFault};
 use link_cbor::Check;
 
-/// Reads the part of this stage from the held bytes, and keeps it in the draft.
+/// Reads the part of this stage from the held bytes, and keeps its fields in the draft. A check
+/// field and the break have no fields.
 ///
 /// Returns the size of the part, and the stage after it. The error is the fault of the part, which
 /// is `Cut` if the held bytes end inside it.
@@ -31,8 +32,9 @@ pub(crate) fn read_part(
     requires small { cursor.old.count < 2 ^ 63 }
     ensures count { cursor.new.count ≡ cursor.old.count }
     ensures hold { cursor.new.hold ≡ cursor.old.hold }
-    ensures ends { (covered : List ℕ) → HasCovered stage cursor.old.check covered
+    ensures ends { (covered : List ℕ) → IfAtCheckFieldCovered stage cursor.old.check covered
         → part_reading stage draft.old.numbers covered cursor.old.hold ≡ part_end result }
+    // The result is the same for any check value, unless it is a fault that lasts.
     ensures any { MatchResult result
         (λ read. any_reading stage draft.old.numbers cursor.old.hold ≡ Ok read.0)
         (λ stop. lasts stop.fault ≡ false
@@ -69,7 +71,7 @@ pub(crate) fn read_part(
 /// Whether the bytes end inside the part of this stage.
 fn is_cut(stage: ScanStage, numbers: &BlockNumbers, check: Check, bytes: &[u8]) -> bool
     requires { IsTrue (is_part stage) }
-    ensures { (covered : List ℕ) → HasCovered stage check covered
+    ensures { (covered : List ℕ) → IfAtCheckFieldCovered stage check covered
         → result ≡ is_cut (part_reading stage numbers.now covered bytes.now) }
 {
     let stop = match stage {
@@ -88,9 +90,10 @@ fn is_cut(stage: ScanStage, numbers: &BlockNumbers, check: Check, bytes: &[u8]) 
     )
 }
 
-/// How many of the bytes show the fault of the part: the least number, which is above `held`.
+/// The least number of bytes, from the start, that show the fault of the part.
 ///
-/// All bytes together show a fault, and the first `held` of them end inside the part.
+/// All bytes together show the fault. The first `held` bytes end inside the part, so the result is
+/// greater than `held`.
 #[cold]
 #[inline(never)]
 pub(crate) fn shown(
@@ -104,8 +107,8 @@ pub(crate) fn shown(
     requires some { held < length bytes.now }
     ensures more { held < result }
     ensures within { result ≤ length bytes.now }
-    ensures shown { (covered : List ℕ) → HasCovered stage check covered
-        → IsLeastShown (part_reading stage numbers.now covered) held result bytes.now }
+    ensures shown { (covered : List ℕ) → IfAtCheckFieldCovered stage check covered
+        → IsLeastNotCutShort (part_reading stage numbers.now covered) held result bytes.now }
 {
     let mut cut = held;
     let mut shown = bytes.len();

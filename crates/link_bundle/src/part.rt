@@ -3,9 +3,11 @@
 ghost use Rattle.std.specs.Prelude.{◌≡◌, ◌+◌, ◌^◌, ◌≤◌, ◌<◌, length};
 ghost use Rattle.link_bundle.specs.Part.{part_in};
 
-/// Returns the bytes of a piece that are among `count` bytes of the data, from `offset` on.
+/// The bytes of a piece whose offsets in the data are at least `offset`, and below
+/// `offset + count`.
 ///
-/// The piece comes after the first `before` bytes of the data, which has all of the `count` bytes.
+/// The piece begins after the first `before` bytes of the data. Unless `count` is 0,
+/// `offset + count` must fit in 64 bits.
 #[inline]
 pub fn part_in(piece: &[u8], before: u64, offset: u64, count: u64) -> &[u8]
     ensures part { (0 < count → offset + count < 2 ^ 64) → result.now ≡ part_in piece.now before

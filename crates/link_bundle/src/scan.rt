@@ -25,7 +25,7 @@ pub struct BundleScan {
 
 /// The first bytes of a piece, at most `left` of them.
 #[inline(always)]
-fn first_of(piece: &[u8], left: u64) -> &[u8]
+fn first_bytes(piece: &[u8], left: u64) -> &[u8]
     ensures run { result.now ≡ take (length result.now) piece.now }
     ensures size { length result.now ≡ min left (length piece.now) }
 {
@@ -58,8 +58,8 @@ impl BundleScan {
 
     /// Makes the scan new, whatever it has seen, also after a fault.
     ///
-    /// The next byte is the first of a bundle. A field keeps its value if the next bundle sets it
-    /// before it is read.
+    /// The next byte is the first of a bundle. Some fields keep their old values. The next bundle
+    /// sets them before they are read.
     #[tactic(auto, using(crate::proofs::Steps::is_new, crate::proofs::Steps::nothing_fits))]
     pub fn restart(&mut self)
         ensures seen { HasScanned self.new [] }
@@ -100,7 +100,7 @@ impl BundleScan {
     pub fn view(&self) -> Result<BundleView<'_>, (BundleFault, u64)>
         ensures seen { (seen : List ℕ) → HasScanned self.now seen
             → viewed_verdict result ≡ verdict seen }
-        // True of every scan, since a draft has no room for longer names.
+        // This holds whatever was scanned: a draft has no room for names of more than 1,024 bytes.
         ensures short { IfOk result (λ view. HasShortNames (viewed_info view)) }
     {
         match self.stage.state() {
@@ -110,7 +110,8 @@ impl BundleScan {
         }
     }
 
-    /// The fields of the primary block that come before its first fault, among the bytes seen.
+    /// The fields of the primary block at the start of the bytes seen, up to the block's first
+    /// fault.
     #[tactic(auto, using(crate::proofs::Steps::fields_whole))]
     pub fn primary(&self) -> PrimaryView<'_>
         ensures { (seen : List ℕ) → HasScanned self.now seen
@@ -155,7 +156,7 @@ impl BundleScan {
         }
     }
 
-    /// Takes a byte after the bundle.
+    /// Takes a byte after the bundle, which is a fault.
     fn trailing_byte(&mut self, byte: u8)
         requires stage { self.old.stage ≡ ScanStage.Ended }
         requires room { self.old.cursor.count < 2 ^ 63 - 1 }
@@ -183,9 +184,9 @@ impl BundleScan {
 impl BundleScan {
     ghost use Rattle.link_cbor.specs.Pieces.{taken};
     ghost use Rattle.link_bundle_blocks.specs.Bundle.{bundle_goes};
-    ghost use Rattle.link_bundle.specs.Scan.{HasScanned, scan_size, may_scan, MayTakePiece, Advances, AddsBlock};
+    ghost use Rattle.link_bundle.specs.Scan.{HasScanned, scan_size, may_scan, MayTakeFromPiece, Advances, EndsBlockOnlyAtLastByte};
 
-    /// Takes the bytes of a piece while more are needed, and returns how many.
+    /// Takes bytes of a piece while the scan needs more, and returns how many it took.
     #[inline(always)]
     fn feed_on(&mut self, bytes: &[u8]) -> usize
         requires room { scan_size self.old + length bytes.now ≤ 2 ^ 63 - 1 }
@@ -203,13 +204,14 @@ impl BundleScan {
         taken
     }
 
-    /// Takes the next bytes of a piece while more are needed, and returns how many, at least one.
+    /// Takes the next bytes of a piece, and returns how many, at least one.
     ///
-    /// It takes a whole bundle if the piece begins with it, or else a part of one.
+    /// The scan must need more bytes. Before the first byte of a bundle, it tries to take a whole
+    /// bundle at once. Otherwise, or if that fails, it takes bytes of one stage.
     #[inline(always)]
     fn advance(&mut self, piece: &[u8]) -> usize
         requires may_step { IsTrue (may_scan self.old) }
-        requires may_take { MayTakePiece self.old piece.now }
+        requires may_take { MayTakeFromPiece self.old piece.now }
         ensures { Advances self.old self.new piece.now result }
     {
         match self.stage {
@@ -218,22 +220,25 @@ impl BundleScan {
         }
     }
 
-    /// Takes the next bytes of a piece while more are needed, and returns how many, at least one.
+    /// Takes the next bytes of a piece, and returns how many, at least one.
     ///
-    /// It takes bytes of one part. A block may end with the last of them.
+    /// The scan must need more bytes. It takes bytes of one stage, and a block may end with the
+    /// last of them.
     #[inline(always)]
     pub(crate) fn advance_part(&mut self, piece: &[u8]) -> usize
         requires may_step { IsTrue (may_scan self.old) }
-        requires may_take { MayTakePiece self.old piece.now }
+        requires may_take { MayTakeFromPiece self.old piece.now }
         ensures advances { Advances self.old self.new piece.now result }
-        ensures blocks { AddsBlock self.old self.new piece.now result }
+        ensures blocks { EndsBlockOnlyAtLastByte self.old self.new piece.now result }
     {
         match self.stage {
             ScanStage::BlockData(left) => {
-                let run = first_of(piece, left);
+                let run = first_bytes(piece, left);
                 self.data_run(left, run);
                 run.len()
             }
+            // This never happens, since a whole bundle needs no more bytes. A byte is taken all the
+            // same, because the contract asks for at least one.
             ScanStage::Ended => {
                 self.trailing_byte(piece[0]);
                 1
@@ -243,12 +248,15 @@ impl BundleScan {
         }
     }
 
-    /// Takes the first bytes of a bundle: the whole bundle if the piece has it, or else a part.
+    /// Takes the first bytes of a bundle, and returns how many, at least one.
+    ///
+    /// It tries to take the whole bundle at once. If that fails, it takes bytes up to the end of
+    /// the primary block at most.
     #[inline(never)]
     fn advance_start(&mut self, piece: &[u8]) -> usize
         requires stage { self.old.stage ≡ ScanStage.PrimaryBlock }
         requires begins { self.old.cursor.hold ≡ [] }
-        requires may_take { MayTakePiece self.old piece.now }
+        requires may_take { MayTakeFromPiece self.old piece.now }
         ensures { Advances self.old self.new piece.now result }
     {
         match self.draft.whole(piece) {
@@ -267,18 +275,20 @@ impl BundleScan {
 
 /// The parts that the scan holds.
 impl BundleScan {
-    ghost use Rattle.link_bundle.specs.Scan.{MayTakePiece, Advances, AddsBlock};
+    ghost use Rattle.link_bundle.specs.Scan.{MayTakeFromPiece, Advances, EndsBlockOnlyAtLastByte};
     ghost use Rattle.link_bundle.specs.Stages.{is_part};
 
     /// Takes bytes of the part that the scan is in, and returns how many, at least one.
+    ///
+    /// If the part has a fault, it takes only as many bytes as show the fault.
     // Cold, so that the attempt to read a whole bundle or block at once keeps its registers.
     #[cold]
     #[inline(never)]
     pub(crate) fn take_part(&mut self, piece: &[u8]) -> usize
         requires part { IsTrue (is_part self.old.stage) }
-        requires may_take { MayTakePiece self.old piece.now }
+        requires may_take { MayTakeFromPiece self.old piece.now }
         ensures advances { Advances self.old self.new piece.now result }
-        ensures blocks { AddsBlock self.old self.new piece.now result }
+        ensures blocks { EndsBlockOnlyAtLastByte self.old self.new piece.now result }
     {
         let stage = self.stage;
         let held = self.cursor.take_in(piece, stage.limit());

@@ -60,6 +60,9 @@ impl ScanStage {
     }
 
     /// The greatest number of bytes that are held to read the part of this stage.
+    ///
+    /// Between two calls, a scan without a fault holds fewer. So at a stage without a part, where
+    /// the number is 1, it holds none.
     #[inline(always)]
     pub fn limit(self) -> usize
         ensures limit { result ≡ limit self }

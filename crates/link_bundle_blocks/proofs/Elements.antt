@@ -7,18 +7,18 @@ use Rattle.link_bundle_heads.specs.Rows.{◌>>=◌, unsigned, pair, primary_bloc
 use Rattle.link_bundle_blocks.specs.Reading.{ReadAt, row_at}
 use Rattle.link_bundle_blocks.specs.Blocks.{Primary}
 use Rattle.link_bundle_blocks.specs.EndpointId.{eid_at}
-use Rattle.link_bundle_blocks.specs.Primary.{PrimaryFields, ElementsAt, first_elements, after, without_fields, fragment_elements, primary_elements, fragment_at, primary_at}
+use Rattle.link_bundle_blocks.specs.Primary.{AcceptedPrimaryFields, ElementsOrStop, first_elements, after, without_fields, fragment_elements, primary_elements, fragment_at, primary_at}
 use Rattle.link_bundle_blocks.specs.{PrimaryFields.whole_elements, Whole.whole_primary}
 use Rattle.link_bundle_blocks.proofs.Steady.{IsCut, Reads, is_read, has_fault, is_cut, Lasting, reads-then, row_at-reads, eid_at-reads, field_at-reads, opening_at-reads, ended, lasting}
 
 -- ---- without the fields before a stop
 
 -- a part that comes after these fields
-abbrev part_after : {A : Type 0} → PrimaryFields → ReadAt A → ElementsAt A
+abbrev part_after : {A : Type 0} → AcceptedPrimaryFields → ReadAt A → ElementsOrStop A
 part_after fields (Ok read) = Ok read
 part_after fields (Err stop) = Err (fields, stop)
 
-without-part : {A : Type 0} (fields : PrimaryFields) (reading : ReadAt A)
+without-part : {A : Type 0} (fields : AcceptedPrimaryFields) (reading : ReadAt A)
     → without_fields (part_after fields reading) ≡ reading
 without-part fields (Ok read) = refl
 without-part fields (Err stop) = refl
@@ -27,13 +27,13 @@ without-after : {A : Type 0} (count : ℕ) (block : Primary) (reading : ReadAt A
     → without_fields (after count block reading) ≡ reading
 without-after count block = without-part (first_elements count block)
 
-without-then : {A B : Type 0} (elements : ElementsAt A) (next : A × ℕ → ElementsAt B)
+without-then : {A B : Type 0} (elements : ElementsOrStop A) (next : A × ℕ → ElementsOrStop B)
     → without_fields (elements >>= next)
     ≡ (without_fields elements >>= λ value. without_fields (next value))
 without-then (Ok read) next = refl
 without-then (Err stop) next = refl
 
-pub elements_read : {A : Type 0} {read : A × ℕ} (elements : ElementsAt A)
+pub elements_read : {A : Type 0} {read : A × ℕ} (elements : ElementsOrStop A)
     → without_fields elements ≡ Ok read → elements ≡ Ok read
 elements_read {read = read} (Ok value) is = let same : value ≡ read = cc in ap Ok same
 elements_read (Err stop) is = cc
@@ -72,12 +72,12 @@ pub ruleset whole_block = (whole_primary-elements)
 -- Elements that have at most `limit` bytes. If the bytes do not end inside them, more bytes change
 -- neither the elements nor the fields before a stop.
 pub record AreElements {A : Type 0} (limit : ℕ) (bytes : List ℕ) (offset : ℕ)
-    (now later : ElementsAt A) : Type 0 where
+    (now later : ElementsOrStop A) : Type 0 where
   pub reads : Reads limit bytes offset (without_fields now) (without_fields later)
   pub same : IsCut bytes (without_fields now) ⊎ (later ≡ now)
 
 elements-then : {A B : Type 0} {limit rest : ℕ} {bytes : List ℕ} {offset : ℕ}
-    {now later : ElementsAt A} {next next_later : A × ℕ → ElementsAt B}
+    {now later : ElementsOrStop A} {next next_later : A × ℕ → ElementsOrStop B}
     → AreElements limit bytes offset now later
     → ((value : A × ℕ) → AreElements rest bytes value.1 (next value) (next_later value))
     → AreElements (limit + rest) bytes offset (now >>= next) (later >>= next_later)
@@ -89,14 +89,14 @@ elements-then {A = A} {B = B} {bytes = bytes} {now = now} {later = later} {next 
       same = same_then now are.same;
     }
   where
-    same_then : (now : ElementsAt A) → IsCut bytes (without_fields now) ⊎ (later ≡ now)
+    same_then : (now : ElementsOrStop A) → IsCut bytes (without_fields now) ⊎ (later ≡ now)
         → IsCut bytes (without_fields (now >>= next)) ⊎ ((later >>= next_later) ≡ (now >>= next))
     same_then (Ok value) (inl cut) = absurd cut
     same_then (Ok value) (inr is) = rw is (each value).same
     same_then (Err stop) (inl cut) = inl cut
     same_then (Err stop) (inr is) = inr (rw is refl)
 
-after_are : {A : Type 0} {limit : ℕ} {bytes : List ℕ} {offset : ℕ} (fields : PrimaryFields)
+after_are : {A : Type 0} {limit : ℕ} {bytes : List ℕ} {offset : ℕ} (fields : AcceptedPrimaryFields)
     {now later : ReadAt A} → Reads limit bytes offset now later
     → AreElements limit bytes offset (part_after fields now) (part_after fields later)
 after_are fields (is_read onward below within) =
@@ -112,7 +112,7 @@ all_read value offset = record { reads = ended value offset; same = inr refl }
 
 module _ (bytes more : List ℕ) where
   row_then : {A B : Type 0} (row : Head → Result A BundleFault) {rest offset : ℕ}
-      (fields : PrimaryFields) {next next_later : A × ℕ → ElementsAt B}
+      (fields : AcceptedPrimaryFields) {next next_later : A × ℕ → ElementsOrStop B}
       → Lasting row
       → ((value : A × ℕ) → AreElements rest bytes value.1 (next value) (next_later value))
       → AreElements (9 + rest) bytes offset (part_after fields (row_at row bytes offset) >>= next)
@@ -120,8 +120,8 @@ module _ (bytes more : List ℕ) where
   row_then row {offset = offset} fields lasting each =
       elements-then (after_are fields (row_at-reads bytes more row offset lasting)) each
 
-  eid_then : {B : Type 0} {rest offset : ℕ} (fields : PrimaryFields)
-      {next next_later : Eid × ℕ → ElementsAt B}
+  eid_then : {B : Type 0} {rest offset : ℕ} (fields : AcceptedPrimaryFields)
+      {next next_later : Eid × ℕ → ElementsOrStop B}
       → ((value : Eid × ℕ) → AreElements rest bytes value.1 (next value) (next_later value))
       → AreElements (1051 + rest) bytes offset (part_after fields (eid_at bytes offset) >>= next)
       (part_after fields (eid_at (bytes ++ more) offset) >>= next_later)

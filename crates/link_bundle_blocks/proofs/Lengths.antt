@@ -8,7 +8,7 @@ use Rattle.link_bundle_types.specs.declared.fault.BundleFault.{BundleFault}
 use Rattle.link_bundle_types.specs.declared.fault.BundleFault.TheVariants.{Cut, Trailing}
 use Rattle.link_bundle_types.specs.{declared.info.BundleInfo.BundleInfo, Faults.lasts}
 use Rattle.link_bundle_heads.specs.Rows.{◌>>=◌}
-use Rattle.link_bundle_blocks.specs.{Laws.{FaultLasts, TrailingLasts}, Reading.Stop}
+use Rattle.link_bundle_blocks.specs.{Laws.{FaultLasts, ByteAfterBundleIsTrailing}, Reading.Stop}
 use Rattle.link_bundle_blocks.specs.Bundle.{Bundle, bundle_at, if_alone, judged_bundle, verdict_by, verdict}
 use Rattle.link_bundle_blocks.proofs.Keeping.{Lasts, cuts, same, bundle_at-lasts}
 
@@ -71,8 +71,8 @@ FaultLasts-holds bytes more fault offset lasting outcome =
     fault-lasts bytes more fault offset (bundle_at bytes) (bundle_at (bytes ++ more)) lasting
     (bundle_at-lasts bytes more) outcome
 
-pub TrailingLasts-holds : TrailingLasts
+pub ByteAfterBundleIsTrailing-holds : ByteAfterBundleIsTrailing
 unfolding verdict judged_bundle judgement
-TrailingLasts-holds bytes more byte info outcome =
+ByteAfterBundleIsTrailing-holds bytes more byte info outcome =
     trailing-lasts bytes more byte info (bundle_at bytes) (bundle_at (bytes ++ byte ∷ more))
     (bundle_at-lasts bytes (byte ∷ more)) outcome

@@ -4,7 +4,7 @@ use Rattle.std.proofs.Common.{◌≡◌, ℕ, ◌+◌, ◌≤◌, ⊎_elim, Bool
 use Rattle.std.specs.Prelude.{◌==◌}
 use Rattle.std.proofs.lemmas.{Bool.false≢true, List.{drop-append-le, take-append-le}}
 use Rattle.std.proofs.Math.{ListN.drop_of_length-le, Seq.take-nil}
-use Rattle.link_bundle_blocks.specs.Laws.{PayloadLasts, SpanDeterminesPayload, EndedPayloadStays}
+use Rattle.link_bundle_blocks.specs.Laws.{PayloadLasts, SpanDeterminesPayload, PayloadStaysAfterBundleEnd}
 use Rattle.link_bundle_types.specs.declared.fault.BundleFault.TheVariants.{Cut}
 use Rattle.link_bundle_heads.specs.Rows.{◌>>=◌}
 use Rattle.link_bundle_blocks.specs.Reading.{Stop}
@@ -85,9 +85,9 @@ pub cut_goes-on : (bytes : List ℕ) → end_of (bundle_at bytes) ≡ Err Cut �
 unfolding verdict judged_bundle goes whole_of
 cut_goes-on bytes cut = cut_goes bytes (bundle_at bytes) cut
 
-pub EndedPayloadStays-holds : EndedPayloadStays
+pub PayloadStaysAfterBundleEnd-holds : PayloadStaysAfterBundleEnd
 unfolding payload_in
-EndedPayloadStays-holds bytes more stops =
+PayloadStaysAfterBundleEnd-holds bytes more stops =
     let ends = (bundle_at-keeps bytes more).ends in
     let going = λ (cut : end_of (bundle_at bytes) ≡ Err Cut).
     false≢true (sym stops ∙ cut_goes-on bytes cut) in

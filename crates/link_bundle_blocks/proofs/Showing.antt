@@ -5,7 +5,7 @@ use Rattle.std.proofs.lemmas.{Bool.false≢true, List.append_cancel_left}
 use Rattle.std.specs.Prelude.{◌==◌}
 use Rattle.link_bundle_blocks.specs.{Blocks.Block, Reading.Stop}
 use Rattle.link_bundle_blocks.specs.Bundle.{Bundle, bundle_at, blocks_of, cut_block_of, blocks_in, cut_block_in}
-use Rattle.link_bundle_blocks.specs.Laws.{BlocksGrow, NoBlocksAfterEnd, NextBlockIsCutOrLater}
+use Rattle.link_bundle_blocks.specs.Laws.{BlocksGrow, NoBlocksAfterBundleEnd, NextBlockIsCutOrLater}
 use Rattle.link_bundle_blocks.proofs.{Steady.of_either, Keeping.bundle_at-keeps, Payloads.{judged_as, cut_goes-on}}
 
 pub blocks_judged : (bytes : List ℕ) → blocks_in bytes ≡ blocks_of (bundle_at bytes)
@@ -28,8 +28,8 @@ BlocksGrow-holds bytes more =
           ∙ ap (λ (blocks : List Block). blocks ++ ends.new) (sym (blocks_judged bytes)),
     )
 
-pub NoBlocksAfterEnd-holds : NoBlocksAfterEnd
-NoBlocksAfterEnd-holds bytes more stops =
+pub NoBlocksAfterBundleEnd-holds : NoBlocksAfterBundleEnd
+NoBlocksAfterBundleEnd-holds bytes more stops =
     blocks_judged (bytes ++ more)
     ∙ ⊎_elim (λ cut. absurd (false≢true (sym stops ∙ cut_goes-on bytes cut.0))) (ap blocks_of)
     (bundle_at-keeps bytes more).ends.lasts

@@ -15,7 +15,7 @@ use Rattle.link_bundle_blocks.specs.Reading.{Stop, ReadAt, head_by, outcome_at, 
 use Rattle.link_bundle_blocks.specs.Whole.{whole_primary}
 use Rattle.link_bundle_blocks.specs.Canonical.{heads_at, content_at}
 use Rattle.link_bundle_blocks.specs.Bundle.{Bundle, with_payload, with_blocks, inside, info_of, rest_of, payload_at, blocks_at, bundle_at, if_alone, judged_bundle, verdict_by, verdict, blocks_in, blocks_of}
-use Rattle.link_bundle_blocks.specs.Laws.{IsBlockBetween, AreBlocksBetween, IsTiled, GoodBlocksTile}
+use Rattle.link_bundle_blocks.specs.Laws.{IsBlockBetween, AreBlocksBetween, IsTiledWithPayloadLast, GoodBlocksTile}
 use Rattle.link_bundle_blocks.proofs.Showing.{blocks_judged}
 use Rattle.link_bundle_blocks.proofs.{Steady.{FrontSpans, front-spans, on_by, heads_at-reads, data_before}, Keeping.{IsBegun, heads_begin}}
 use Rattle.link_bundle_blocks.proofs.{Beginnings.begins_primary, Readings.{then_read, was_read, bundle_parts}}
@@ -177,7 +177,7 @@ blocks_rest (suc left) numbers primary bytes start =
 abbrev TilesAll : List ℕ → BundleInfo → Bundle → Type 0
 TilesAll bytes info bundle =
     bundle.length ≡ length bytes → info ≡ bundle.info → blocks_in bytes ≡ bundle.blocks
-    → IsTiled bytes info
+    → IsTiledWithPayloadLast bytes info
 
 primary_tiles : (bytes : List ℕ) (info : BundleInfo) (primary : Primary)
     (check : Option CheckKind) (end : ℕ) (reading : Result Bundle Stop) → 1 ≤ end
@@ -213,7 +213,7 @@ bundle_tiles bytes info =
 tiled_by : (bytes : List ℕ) (info : BundleInfo) (reading : Result Bundle Stop)
     → IfOk reading (TilesAll bytes info)
     → verdict_by (reading >>= λ bundle. if_alone bytes bundle) ≡ Ok info
-    → blocks_in bytes ≡ blocks_of reading → IsTiled bytes info
+    → blocks_in bytes ≡ blocks_of reading → IsTiledWithPayloadLast bytes info
 tiled_by bytes info (Err stop) tiles good blocks = absurd (cc)
 tiled_by bytes info (Ok bundle) tiles good blocks =
     ⊎_elim

@@ -4,7 +4,7 @@ use Rattle.std.specs.Prelude.{ℕ, ◌+◌, ◌≤◌, List, [], ◌∷◌, Opti
 use Rattle.link_cbor.specs.declared.check.CheckKind.{CheckKind}
 use Rattle.link_bundle_types.specs.declared.eid.Eid.{Eid}
 use Rattle.link_bundle_types.specs.EidView.{viewed_eid}
-use Rattle.link_bundle_types.specs.ShortNames.{IsShort}
+use Rattle.link_bundle_types.specs.ShortNames.{HasNoLongName}
 use Rattle.link_bundle_blocks.specs.declared.block.BlockView.{BlockView}
 use Rattle.link_bundle_blocks.specs.declared.block.BlockView.TheVariants as view
 use Rattle.link_bundle_blocks.specs.declared.block.CanonicalBlock.{CanonicalBlock}
@@ -52,21 +52,21 @@ abbrev pub viewed_block : BlockView → Block
 viewed_block (view.Primary block) = PrimaryOf (viewed_primary block) block.check block.end
 viewed_block (view.Canonical block) = CanonicalOf block
 
--- the block that a view shows, as a list; no block without a view
+-- the block that a view shows, as a list; `[]` if there is no view
 abbrev pub viewed_blocks : Option BlockView → List Block
 viewed_blocks None = []
 viewed_blocks (Some view) = viewed_block view ∷ []
 
 -- the dtn names of a primary block have at most 1,024 bytes each
 pub record HasShortEids (primary : Primary) : Type 0 where
-  pub destination : IsShort primary.destination
-  pub source : IsShort primary.source
-  pub report_to : IsShort primary.report_to
+  pub destination : HasNoLongName primary.destination
+  pub source : HasNoLongName primary.source
+  pub report_to : HasNoLongName primary.report_to
 
 -- if this is a primary block, its dtn names have at most 1,024 bytes each
-abbrev pub IsShortBlock : Block → Type 0
-IsShortBlock (PrimaryOf primary check end) = HasShortEids primary
-IsShortBlock (CanonicalOf block) = Unit {0}
+abbrev pub IfPrimaryHasShortEids : Block → Type 0
+IfPrimaryHasShortEids (PrimaryOf primary check end) = HasShortEids primary
+IfPrimaryHasShortEids (CanonicalOf block) = Unit {0}
 
 -- The canonical block that comes next: the first of the blocks, without its end. If there are none,
 -- it is `cut`, the block that the bytes cut short. The result is `None` if the primary block is

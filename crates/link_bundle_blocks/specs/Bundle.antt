@@ -43,7 +43,7 @@ abbrev pub inside : CanonicalBlock → ReadAt Bool → ReadAt Bool
 inside block (Ok read) = Ok read
 inside block (Err stop) = Err (record stop { cut_block = cut_in stop.fault block })
 
--- the fields of a bundle with that many canonical blocks and a payload of that many bytes
+-- the fields of a bundle with `blocks` canonical blocks and a payload of `size` bytes
 abbrev pub info_of : Primary → ℕ → ℕ → BundleInfo
 info_of primary blocks size =
     record {
@@ -59,21 +59,21 @@ info_of primary blocks size =
       payload = size;
     }
 
--- Passes over the data of a canonical block and its check field. Only the offset after them counts:
--- the value `true` says nothing.
+-- Passes over the data of a canonical block and its check field. The value is always `true`, so
+-- only the offset after them counts. If the bytes end in them, the stop gets the block.
 abbrev pub rest_of : CanonicalBlock → List ℕ → ReadAt Bool
 rest_of block bytes =
     inside block (content_at block.data_length block.check block.start bytes block.data_start)
 
--- The rest of a bundle, read from the data of its last block on: `block`, the payload block. The
--- bundle has `blocks` canonical blocks.
+-- The rest of a bundle, read from the data of `block` on. `block` is the payload block, which is
+-- the last. The bundle contains `count` canonical blocks in all.
 unfoldable pub payload_at : Primary → ℕ → CanonicalBlock → List ℕ → Result Bundle Stop
-payload_at primary blocks block bytes = with_payload (block.data_start, block.data_length) do
+payload_at primary count block bytes = with_payload (block.data_start, block.data_length) do
   (_, end) ← rest_of block bytes
   with_blocks (CanonicalOf (ended block end) ∷ []) do
     (_, end) ← row_at closing bytes end
     Ok (record {
-      info = info_of primary blocks block.data_length;
+      info = info_of primary count block.data_length;
       length = end;
       payload_span = (block.data_start, block.data_length);
       blocks = [];

@@ -7,7 +7,8 @@ use Rattle.link_bundle_types.specs.declared.fault.BundleFault.TheVariants.{Check
 use Rattle.link_bundle_heads.specs.Rows.{◌>>=◌, check_width, check_field}
 use Rattle.link_bundle_blocks.specs.Reading.{ReadAt, stopped, row_at, bytes_at}
 
--- the number that bytes spell after those that spell `high`, the most significant byte first
+-- The number that these bytes spell after earlier bytes, which spell `high`. The most significant
+-- byte comes first.
 abbrev pub number_from : ℕ → List ℕ → ℕ
 number_from high bytes = fold (λ number byte. number * 256 + byte) high bytes
 

@@ -19,8 +19,8 @@ FaultLasts =
 
 -- if a byte follows a whole bundle, the verdict is the fault of trailing bytes, at the bundle's
 -- length
-abbrev pub TrailingLasts : Type 0
-TrailingLasts =
+abbrev pub ByteAfterBundleIsTrailing : Type 0
+ByteAfterBundleIsTrailing =
     (bytes more : List ℕ) (byte : ℕ) (info : BundleInfo) →
     verdict bytes ≡ Ok info → verdict (bytes ++ byte ∷ more) ≡ Err (Trailing, length bytes)
 
@@ -31,8 +31,8 @@ PayloadLasts =
     payload_of (judged_bundle bytes) ≡ Some payload → payload_of (judged_bundle (bytes ++ more))
     ≡ Some payload
 
--- The offset and the length of the payload determine which of its bytes are there. This holds for
--- fewer bytes too, in which the two may not be known yet.
+-- If `bytes` and `more` together show the offset and the length of the payload, these two determine
+-- which bytes of the payload are in `bytes`. `bytes` alone may be too short to show them.
 abbrev pub SpanDeterminesPayload : Type 0
 SpanDeterminesPayload =
     (bytes more : List ℕ) (offset size : ℕ) →
@@ -40,8 +40,8 @@ SpanDeterminesPayload =
     → payload_in bytes ≡ take size (drop offset bytes)
 
 -- after the bundle's end, or after a fault that lasts, the payload gets no more bytes
-abbrev pub EndedPayloadStays : Type 0
-EndedPayloadStays =
+abbrev pub PayloadStaysAfterBundleEnd : Type 0
+PayloadStaysAfterBundleEnd =
     (bytes more : List ℕ) →
     bundle_goes bytes ≡ false → payload_in (bytes ++ more) ≡ payload_in bytes
 
@@ -51,16 +51,16 @@ BlocksGrow =
     (bytes more : List ℕ) → (new : List Block) × (blocks_in (bytes ++ more) ≡ blocks_in bytes ++ new)
 
 -- after the bundle's end, or after a fault that lasts, more bytes add no blocks
-abbrev pub NoBlocksAfterEnd : Type 0
-NoBlocksAfterEnd =
+abbrev pub NoBlocksAfterBundleEnd : Type 0
+NoBlocksAfterBundleEnd =
     (bytes more : List ℕ) → bundle_goes bytes ≡ false → blocks_in (bytes ++ more) ≡ blocks_in bytes
 
 -- the whole blocks lie within the bytes
 abbrev pub BlocksWithin : Type 0
 BlocksWithin = (bytes : List ℕ) → All (LiesWithin (length bytes)) (blocks_in bytes)
 
--- When more bytes follow, the next canonical block is the one that the first bytes cut short, or
--- its data begins after them.
+-- `block` is the first canonical block that is not whole in `bytes`, if `more` shows it. `bytes`
+-- ends in its data or check field, or its data begins after `bytes`.
 abbrev pub NextBlockIsCutOrLater : Type 0
 NextBlockIsCutOrLater =
     (bytes more : List ℕ) (new : List Block) (block : CanonicalBlock) →
@@ -84,10 +84,11 @@ AreBlocksBetween from [] to = from ≡ to
 AreBlocksBetween from (block ∷ rest) to = (end : ℕ) × (IsBlockBetween block from end)
     × (AreBlocksBetween end rest to)
 
--- A good bundle has a primary block, and then canonical blocks. Only the last of these is a payload
--- block (type 1). The blocks have all bytes between the first of the bundle, which opens it, and
--- the last, which ends it.
-pub record IsTiled (bytes : List ℕ) (info : BundleInfo) : Type 0 where
+-- A good bundle consists of the byte that opens it, its primary block, its canonical blocks, and
+-- the break, which ends it. Only the last canonical block is a payload block (type 1). `info`
+-- contains the fields of the primary block, the number of canonical blocks, and the length of the
+-- payload.
+pub record IsTiledWithPayloadLast (bytes : List ℕ) (info : BundleInfo) : Type 0 where
   pub primary : Primary
   pub check : Option CheckKind
   pub end : ℕ
@@ -103,6 +104,7 @@ pub record IsTiled (bytes : List ℕ) (info : BundleInfo) : Type 0 where
   pub tiles : AreBlocksBetween 1 (blocks_in bytes) last
   pub size : length bytes ≡ last + 1
 
--- the blocks of a good bundle divide it, as `IsTiled` says
+-- the blocks of a good bundle divide it, as `IsTiledWithPayloadLast` says
 abbrev pub GoodBlocksTile : Type 0
-GoodBlocksTile = (bytes : List ℕ) (info : BundleInfo) → verdict bytes ≡ Ok info → IsTiled bytes info
+GoodBlocksTile = (bytes : List ℕ) (info : BundleInfo) → verdict bytes ≡ Ok info
+    → IsTiledWithPayloadLast bytes info

@@ -11,7 +11,7 @@ use Rattle.link_bundle_blocks.specs.CheckField.{number_from}
 use Rattle.link_bundle_blocks.specs.Canonical.{heads_at}
 
 -- The heads of the next canonical block. `numbers` are the numbers of the blocks before. After 64
--- blocks another block is a fault.
+-- blocks the result is always a fault, so `cut_short bytes` is only there for its type.
 unfoldable pub next_block_at : List ℕ → List ℕ → ℕ → ReadAt CanonicalBlock
 next_block_at numbers bytes start =
     if nat_le 64 (length numbers) then (do

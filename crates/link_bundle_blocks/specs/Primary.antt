@@ -12,7 +12,7 @@ use Rattle.link_bundle_blocks.specs.EndpointId.{eid_at}
 -- ---- what is known of a block
 
 -- the fields of a primary block that were accepted; the others are 0 or `None`
-pub record PrimaryFields : Type 0 where
+pub record AcceptedPrimaryFields : Type 0 where
   -- The number of elements of the block's array that were accepted, in their order. These are the
   -- version, the flags, the check type, the destination, the source node, the report-to endpoint,
   -- the creation timestamp and the lifetime, and in a fragment its offset and the total length. The
@@ -30,13 +30,14 @@ pub record PrimaryFields : Type 0 where
   pub fragment_offset : ℕ
   pub fragment_total : ℕ
 
--- the number of elements of a block's array, without its check value
+-- The number of elements of a primary block's array, without its check value: eight, and two more
+-- in a fragment. The argument is the block's field `fragment`.
 abbrev pub element_count : Option (ℕ × ℕ) → ℕ
 element_count None = 8
 element_count (Some fragment) = 10
 
 -- all fields of a whole block
-abbrev pub all_fields : Primary → PrimaryFields
+abbrev pub all_fields : Primary → AcceptedPrimaryFields
 all_fields block =
     record {
       accepted = element_count block.fragment;
@@ -52,8 +53,9 @@ all_fields block =
       fragment_total = (unwrap_or block.fragment (0, 0)).1;
     }
 
--- the fields of a block whose first `count` elements were read; the later ones are 0 or `None`
-abbrev pub first_elements : ℕ → Primary → PrimaryFields
+-- The fields of a block whose first `count` elements were read. The endpoint IDs of later elements
+-- are left out. The other fields of later elements have to be 0 or `None` in `block`.
+abbrev pub first_elements : ℕ → Primary → AcceptedPrimaryFields
 first_elements count block =
     record (all_fields block) {
       accepted = count;
@@ -80,22 +82,23 @@ no_primary =
 -- ---- how a block is read
 
 -- some elements and the offset after them, or the stop and the fields of the block before it
-abbrev pub ElementsAt : Type 0 → Type 0
-ElementsAt A = Result (A × ℕ) (PrimaryFields × Stop)
+abbrev pub ElementsOrStop : Type 0 → Type 0
+ElementsOrStop A = Result (A × ℕ) (AcceptedPrimaryFields × Stop)
 
--- the same reading; a stop also gets the first `count` elements of the block, which come before it
-abbrev pub after : {A : Type 0} → ℕ → Primary → ReadAt A → ElementsAt A
+-- The reading of a part of the block. A stop also gets the first `count` elements of the block,
+-- which come before this part.
+abbrev pub after : {A : Type 0} → ℕ → Primary → ReadAt A → ElementsOrStop A
 after count block (Ok read) = Ok read
 after count block (Err stop) = Err (first_elements count block, stop)
 
 -- the same reading without the fields before the stop
-abbrev pub without_fields : {A : Type 0} → ElementsAt A → ReadAt A
+abbrev pub without_fields : {A : Type 0} → ElementsOrStop A → ReadAt A
 without_fields (Ok read) = Ok read
 without_fields (Err (fields, stop)) = Err stop
 
 -- The fragment offset and the total length, if the bundle is a fragment, as the `Bool` says.
 -- `block` has the elements before them.
-unfoldable pub fragment_elements : Bool → Primary → List ℕ → ℕ → ElementsAt (Option (ℕ × ℕ))
+unfoldable pub fragment_elements : Bool → Primary → List ℕ → ℕ → ElementsOrStop (Option (ℕ × ℕ))
 fragment_elements false block bytes offset = Ok (None, offset)
 fragment_elements true block bytes offset = do
   (fragment_offset, offset) ← after 8 block (row_at unsigned bytes offset)
@@ -108,7 +111,7 @@ fragment_elements true block bytes offset = do
 -- endpoint IDs of destination, source and report-to follow (section 4.2.5.1). The creation
 -- timestamp (section 4.2.7) has a time (section 4.2.6) and a sequence number. The lifetime and the
 -- fields of a fragment come last.
-unfoldable pub primary_elements : List ℕ → ℕ → ElementsAt (Primary × Option CheckKind)
+unfoldable pub primary_elements : List ℕ → ℕ → ElementsOrStop (Primary × Option CheckKind)
 primary_elements bytes offset = do
   let block = no_primary
   (count, offset) ← after 0 block (row_at primary_block bytes offset)
@@ -133,7 +136,8 @@ primary_elements bytes offset = do
 
 -- ---- the same without the fields before a stop
 
--- the same without the fields before the stop
+-- The two numbers of a fragment and the offset after them, or the stop. If `is_fragment` is false,
+-- there are no numbers, and nothing is read. The fields that were read before a stop are dropped.
 unfoldable pub fragment_at : Bool → List ℕ → ℕ → ReadAt (Option (ℕ × ℕ))
 fragment_at is_fragment bytes offset =
     without_fields (fragment_elements is_fragment no_primary bytes offset)

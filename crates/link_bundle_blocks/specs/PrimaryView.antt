@@ -3,10 +3,10 @@
 use Rattle.std.specs.Prelude.{option_map}
 use Rattle.link_bundle_types.specs.EidView.{viewed_eid}
 use Rattle.link_bundle_blocks.specs.declared.primary_view.PrimaryView.{PrimaryView}
-use Rattle.link_bundle_blocks.specs.Primary.{PrimaryFields}
+use Rattle.link_bundle_blocks.specs.Primary.{AcceptedPrimaryFields}
 
 -- the fields that a view shows
-abbrev pub viewed_fields : PrimaryView → PrimaryFields
+abbrev pub viewed_fields : PrimaryView → AcceptedPrimaryFields
 viewed_fields view =
     record {
       accepted = view.accepted;

@@ -34,7 +34,8 @@ ReadAt A = Result (A × ℕ) Stop
 abbrev pub cut_short : {A : Type 0} → List ℕ → Result A Stop
 cut_short bytes = Err (stopped Cut (length bytes))
 
--- the head at an offset, or the stop; the bytes from the offset on begin with this
+-- The head at an offset, or the stop. The third argument is what the bytes from the offset on begin
+-- with.
 abbrev pub head_by : List ℕ → ℕ → HeadFront → ReadAt Head
 head_by bytes offset CutHead = cut_short bytes
 head_by bytes offset IllFormed = Err (stopped BadHead offset)
@@ -44,8 +45,8 @@ head_by bytes offset (Whole head size) = Ok (head, offset + size)
 unfoldable pub head_at : List ℕ → ℕ → ReadAt Head
 head_at bytes offset = head_by bytes offset (head_front (drop offset bytes))
 
--- A judged head as a part: its value and `next`, the offset after the head, or its fault at
--- `offset`, where the head begins.
+-- The outcome of judging a head, with an offset. The head begins at `offset`, and `next` is the
+-- offset after it. A value gets `next`, and a fault gets `offset`.
 abbrev pub outcome_at : {A : Type 0} → ℕ → ℕ → Result A BundleFault → ReadAt A
 outcome_at offset next (Ok value) = Ok (value, next)
 outcome_at offset next (Err fault) = Err (stopped fault offset)
@@ -56,7 +57,7 @@ row_at row bytes offset = do
   (head, next) ← head_at bytes offset
   outcome_at offset next (row head)
 
--- that many bytes from an offset on
+-- `count` bytes from an offset on
 unfoldable pub bytes_at : ℕ → List ℕ → ℕ → ReadAt (List ℕ)
 bytes_at count bytes offset =
     if nat_lt (length bytes) (offset + count) then cut_short bytes

@@ -11,7 +11,7 @@ use Rattle.link_bundle_blocks.specs.Canonical.{heads_at, content_at}
 use Rattle.link_bundle_blocks.specs.Blocks.{Primary, Block}
 use Rattle.link_bundle_blocks.specs.Bundle.{Bundle, info_of, opening_at}
 
--- the first byte of a bundle and its primary block
+-- the first byte of a bundle and its primary block, with the check field of the block
 unfoldable pub whole_primary : List ℕ → ReadAt (Primary × Option CheckKind)
 whole_primary bytes = do
   (_, start) ← opening_at bytes
@@ -26,7 +26,8 @@ whole_canonical numbers bytes start = do
   (_, next) ← content_at block.data_length block.check block.start bytes block.data_start
   Ok (block, next)
 
--- A block whose two offsets are counted from `count` bytes earlier. Its `end` stays as it is.
+-- A block whose `start` and `data_start` are counted from `count` bytes earlier. Its `end` stays as
+-- it is.
 abbrev pub moved : ℕ → CanonicalBlock → CanonicalBlock
 moved count block =
     record block { start = count + block.start; data_start = count + block.data_start }

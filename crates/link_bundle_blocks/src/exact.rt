@@ -65,8 +65,10 @@ pub(crate) fn head_at(bytes: &[u8], offset: usize) -> Result<(Head, usize), Part
     }
 }
 
-/// Makes a part of a judged head, which begins at `offset` and ends before `next`: its value and
-/// `next`, or its fault at `offset`.
+/// Returns the outcome of judging a head, with an offset.
+///
+/// The head begins at `offset`, and `next` is the offset after it. A value is returned with `next`,
+/// and a fault with `offset`.
 #[inline(always)]
 pub(crate) fn outcome_at<T>(
     offset: usize,
@@ -100,8 +102,8 @@ pub(crate) fn pair_at(bytes: &[u8], offset: usize) -> Result<(u64, usize), PartF
     outcome_at(offset, next, row::pair(head))
 }
 
-/// Reads the head of the check field of a block that has a check of this kind, and returns the
-/// length of the field's content in bytes.
+/// Reads the head of the check field of a block that has a check of this kind. Returns the length
+/// of the field's content in bytes, and the offset after the head.
 pub(crate) fn check_head_at(
     kind: CheckKind,
     bytes: &[u8],
@@ -115,7 +117,7 @@ pub(crate) fn check_head_at(
     outcome_at(offset, next, row::check_field(kind, head))
 }
 
-/// Reads that many bytes.
+/// Reads `size` bytes from `offset` on, and returns them and the offset after them.
 #[tactic(auto, unfolding(crate::specs::Reading::bytes_at))]
 pub(crate) fn bytes_at(size: u64, bytes: &[u8], offset: usize) -> Result<(&[u8], usize), PartFault>
     ensures read { reading_by (λ value. value.now) result ≡ bytes_at size bytes.now offset }

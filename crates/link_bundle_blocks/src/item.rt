@@ -20,8 +20,9 @@ const BREAK: u8 = 0xff;
 /// The greatest length of a head in bytes (RFC 8949 section 3).
 const LONGEST: usize = 9;
 
-/// The additional information of the head at an offset, which is below 32. The result is at least
-/// 32 if the head has another major type, and an error if the bytes end before the offset.
+/// The additional information of the head at an offset, if the head has this major type. It is
+/// below 32. For any other major type, the result is at least 32. If no byte is at the offset, the
+/// result is an error.
 #[inline(always)]
 fn information_at(major: u8, bytes: &[u8], offset: usize) -> Result<u8, BundleFault>
     requires { major < 8 }
@@ -116,7 +117,8 @@ pub fn pair_at(bytes: &[u8], offset: usize) -> Result<usize, BundleFault>
     Ok(offset + 1)
 }
 
-/// Reads the break after the payload block, and returns the offset after it.
+/// Reads the break after the payload block, and returns the offset after it. The definition also
+/// returns a value, which is always `true`.
 #[inline(always)]
 #[tactic(auto, using(crate::proofs::Items::one_byte))]
 pub fn closing_at(bytes: &[u8], offset: usize) -> Result<usize, BundleFault>
@@ -131,7 +133,7 @@ pub fn closing_at(bytes: &[u8], offset: usize) -> Result<usize, BundleFault>
     Ok(offset + 1)
 }
 
-/// Reads that many bytes from an offset on, and returns them and the offset after them.
+/// Reads `size` bytes from `offset` on, and returns them and the offset after them.
 #[tactic(auto, using(crate::proofs::Readings::whole_bytes))]
 #[inline(always)]
 pub fn bytes_at(size: u64, bytes: &[u8], offset: usize) -> Result<(&[u8], usize), BundleFault>

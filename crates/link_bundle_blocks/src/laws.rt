@@ -3,23 +3,24 @@
 //! The functions do nothing when they run. Their contracts are the laws.
 ghost use Rattle.std.specs.Prelude.{◌≡◌, ℕ, List, take};
 ghost use Rattle.link_bundle_blocks.specs.PrimaryFields.{primary_fields};
-ghost use Rattle.link_bundle_blocks.specs.Laws.{FaultLasts, TrailingLasts, PayloadLasts, SpanDeterminesPayload, EndedPayloadStays, BlocksGrow, NoBlocksAfterEnd, BlocksWithin, NextBlockIsCutOrLater, GoodBlocksTile};
+ghost use Rattle.link_bundle_blocks.specs.Laws.{FaultLasts, ByteAfterBundleIsTrailing, PayloadLasts, SpanDeterminesPayload, PayloadStaysAfterBundleEnd, BlocksGrow, NoBlocksAfterBundleEnd, BlocksWithin, NextBlockIsCutOrLater, GoodBlocksTile};
 
 /// How the verdict on some bytes lasts when more bytes follow.
 ///
-/// - A fault stays the same, at the same offset, unless it is that the bytes end inside the bundle.
+/// - A fault stays the same, at the same offset. The exception is `Cut`, which says that the bytes
+///   end inside the bundle.
 /// - If a byte follows a whole bundle, the verdict is the fault of trailing bytes, at the bundle's
 ///   length, whatever comes after that byte.
 /// - Once the offset of the payload and its length by its head are known, they stay the same.
-/// - They determine which bytes of the payload are there. This holds for fewer bytes too, in which
-///   the two may not be known yet.
+/// - The offset and the length determine which bytes of the payload are there. This is also true of
+///   any first bytes of the same bundle, even if they are too few to show the two.
 /// - After the bundle's end, or after a fault that stays, the payload gets no more bytes.
 pub fn verdict_lasts()
     ensures fault { FaultLasts }
-    ensures trailing { TrailingLasts }
+    ensures trailing { ByteAfterBundleIsTrailing }
     ensures payload { PayloadLasts }
     ensures placed { SpanDeterminesPayload }
-    ensures ends { EndedPayloadStays }
+    ensures ends { PayloadStaysAfterBundleEnd }
 {}
 
 /// How the blocks among some bytes last when more bytes follow.
@@ -27,10 +28,11 @@ pub fn verdict_lasts()
 /// - More bytes leave the whole blocks as they are, and may add some.
 /// - After the bundle's end, or after a fault that stays, no more blocks are added.
 /// - The whole blocks lie within the bytes.
-/// - The next canonical block is the one that the bytes cut short, or its data begins after them.
+/// - Take the first canonical block that is not whole yet. The bytes end in its data or check
+///   field, or its data begins after them.
 pub fn blocks_last()
     ensures grow { BlocksGrow }
-    ensures end { NoBlocksAfterEnd }
+    ensures end { NoBlocksAfterBundleEnd }
     ensures within { BlocksWithin }
     ensures placed { NextBlockIsCutOrLater }
 {}

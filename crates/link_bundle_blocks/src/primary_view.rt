@@ -65,7 +65,8 @@ impl<'a> PrimaryView<'a> {
 
     /// The fields of a block whose first elements were accepted, `count` of them.
     ///
-    /// Endpoint IDs of later elements are left out. Their other fields have to be 0 or `None`.
+    /// The endpoint IDs of later elements are left out. The other fields of later elements have to
+    /// be 0 or `None` in `block`.
     // Inlined, since a caller knows most fields of the block: they are not read yet.
     #[inline(always)]
     pub(crate) fn first(count: u64, block: PrimaryBlock<'a>) -> PrimaryView<'a>

@@ -5,9 +5,9 @@
 //! The scan then finds out which, part by part.
 ghost use Rattle.std.specs.Prelude.{◌≡◌, ℕ, List, ◌<◌, ◌++◌, [], length, replicate, true, Some, Ok, IfOk};
 ghost use Rattle.link_bundle_types.specs.EidView.{viewed_eid};
-ghost use Rattle.link_bundle_types.specs.ShortNames.{IsShort};
+ghost use Rattle.link_bundle_types.specs.ShortNames.{HasNoLongName};
 ghost use Rattle.link_cbor.specs.Crc.{crc};
-ghost use Rattle.link_cbor.specs.Pushed.{HasPushed};
+ghost use Rattle.link_cbor.specs.Pushed.{IsCheckAt};
 ghost use Rattle.link_bundle_heads.specs.Rows.{check_width};
 ghost use Rattle.link_bundle_blocks.specs.EndpointId.{eid_at, specific_at};
 ghost use Rattle.link_bundle_blocks.specs.CheckField.{number_from, field_at};
@@ -38,7 +38,7 @@ const DTN_NONE: u32 = 0x82_01_00;
 #[inline(always)]
 pub fn eid_at(bytes: &[u8], offset: usize) -> Result<(EidView<'_>, usize), BundleFault>
     ensures read { IfOk result (λ read. eid_at bytes.now offset ≡ Ok (viewed_eid read.0, read.1)) }
-    ensures short { IfOk result (λ read. IsShort (viewed_eid read.0)) }
+    ensures short { IfOk result (λ read. HasNoLongName (viewed_eid read.0)) }
 {
     if bytes.len().saturating_sub(offset) < 4 {
         return Err(BundleFault::Cut);
@@ -60,7 +60,7 @@ pub fn eid_at(bytes: &[u8], offset: usize) -> Result<(EidView<'_>, usize), Bundl
 #[tactic(auto, using(crate::proofs::Heads::heads), unfolding(crate::specs::EndpointId::eid_at))]
 fn any_eid_at(bytes: &[u8], offset: usize) -> Result<(EidView<'_>, usize), BundleFault>
     ensures read { IfOk result (λ read. eid_at bytes.now offset ≡ Ok (viewed_eid read.0, read.1)) }
-    ensures short { IfOk result (λ read. IsShort (viewed_eid read.0)) }
+    ensures short { IfOk result (λ read. HasNoLongName (viewed_eid read.0)) }
 {
     let offset = pair_at(bytes, offset)?;
     let (head, offset) = small_at(row::UNSIGNED, bytes, offset)?;
@@ -75,7 +75,7 @@ fn any_eid_at(bytes: &[u8], offset: usize) -> Result<(EidView<'_>, usize), Bundl
 fn dtn_at(bytes: &[u8], offset: usize) -> Result<(EidView<'_>, usize), BundleFault>
     ensures read { IfOk result (λ read. specific_at Dtn bytes.now offset
         ≡ Ok (viewed_eid read.0, read.1)) }
-    ensures short { IfOk result (λ read. IsShort (viewed_eid read.0)) }
+    ensures short { IfOk result (λ read. HasNoLongName (viewed_eid read.0)) }
 {
     let (head, offset) = item_at(row::TEXT_STRING, bytes, offset)?;
     match row::dtn_part(head)? {
@@ -92,7 +92,7 @@ fn dtn_at(bytes: &[u8], offset: usize) -> Result<(EidView<'_>, usize), BundleFau
 fn ipn_at(bytes: &[u8], offset: usize) -> Result<(EidView<'_>, usize), BundleFault>
     ensures read { IfOk result (λ read. specific_at Ipn bytes.now offset
         ≡ Ok (viewed_eid read.0, read.1)) }
-    ensures short { IfOk result (λ read. IsShort (viewed_eid read.0)) }
+    ensures short { IfOk result (λ read. HasNoLongName (viewed_eid read.0)) }
 {
     let (head, offset) = small_at(row::ARRAY, bytes, offset)?;
     let count = row::ipn_part(head)?;
@@ -148,7 +148,7 @@ pub fn check_of(kind: CheckKind, block: &[u8]) -> u32
 ///
 /// `rest` are its other bytes before the content of its check field. The content counts as zeros.
 pub(crate) fn padded_check_of(kind: CheckKind, mut check: Check, rest: &[u8]) -> u32
-    ensures { (before : List ℕ) → HasPushed kind check before
+    ensures { (before : List ℕ) → IsCheckAt kind check before
         → result ≡ crc kind (before ++ rest.now ++ replicate (check_width kind) 0) }
 {
     check.push_slice(rest);
@@ -162,7 +162,7 @@ pub(crate) fn padded_check_of(kind: CheckKind, mut check: Check, rest: &[u8]) ->
 /// Reads the check field of a block, if it has one (RFC 9171 section 4.2.2).
 ///
 /// The block begins at `start`. Returns the offset after the field, or `offset` itself if the block
-/// has no check. The definition of `field_at` adds a value, which is always `true`.
+/// has no check. The definition also returns a value, which is always `true`.
 #[inline(always)]
 #[tactic(auto, unfolding(crate::specs::CheckField::field_at))]
 pub fn field_at(
@@ -179,10 +179,11 @@ pub fn field_at(
     }
 }
 
-/// Reads the check field of a block that has a check of this kind.
+/// Reads the check field at `offset`, and compares it with the check value of the block.
 ///
-/// The block begins at `start`. Returns the offset after the field. The definition of `field_at`
-/// adds a value, which is always `true`.
+/// The block begins at `start`, and has a check of this kind. Returns the offset after the field,
+/// or `CheckDiffers` if the two values differ. The definition also returns a value, which is always
+/// `true`.
 #[inline(always)]
 fn stored_at(
     kind: CheckKind,
@@ -204,8 +205,8 @@ fn stored_at(
 /// Reads the data of a canonical block, `size` bytes from `offset` on, and the check field after
 /// it.
 ///
-/// The block begins at `start`: its check value covers it from there on. Returns the offset after
-/// the block. The definition of `content_at` adds a value, which is always `true`.
+/// The block begins at `start`, and its check value covers the bytes from there on. Returns the
+/// offset after the block. The definition also returns a value, which is always `true`.
 #[inline(always)]
 #[tactic(auto, unfolding(crate::specs::Canonical::content_at))]
 fn content_at(
@@ -286,9 +287,9 @@ pub fn whole_canonical(
 
 /// Reads the canonical blocks, and the break after the payload block.
 ///
-/// `numbers` is empty before the call, and then has the numbers of the blocks. Returns the offset
-/// and the length of the payload, and the offset after the break. The result does not depend on the
-/// primary block.
+/// `numbers` is empty before the call, and then contains the numbers of the blocks, at most 64.
+/// Returns the offset and the length of the payload, and the offset after the break. The definition
+/// also takes the primary block. None of the three values depends on it.
 #[inline(always)]
 pub fn blocks_at(
     numbers: &mut BlockNumbers,

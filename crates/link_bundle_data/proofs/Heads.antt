@@ -33,7 +33,7 @@ use Rattle.link_bundle_data.specs.BlockData.{BlockData, items_at, assertion_at, 
 use Rattle.link_bundle_data.specs.DataRows.{integer, assertion, four_or_six, four_or_more, one_or_two}
 use Rattle.link_bundle_data.specs.EidLeft.{numbered, scheme_left, node_left, service_left, name_left}
 use Rattle.link_bundle_data.specs.Turns.{others_due, targets_due, first_of, first_number, specific, with_others, with_times, with_assertion, with_targets, with_target, with_context, with_flags, with_eid, took_assertion, took, took_dtn, took_asserted, judged}
-use Rattle.link_bundle_data.specs.Left.{ended, after_fragment, sequence_left, time_left, by_eid, reason_left, others_left, received_left, by_assertion, boolean_left, boolean_at, assertions_left, report_left, flags_left, context_left, targets_left, limit_left, type_left, number_left, pair_left, due_left, stage_left, goes_on}
+use Rattle.link_bundle_data.specs.Left.{item_ended, after_fragment, sequence_left, time_left, by_eid, reason_left, others_left, received_left, by_assertion, boolean_left, boolean_at, assertions_left, report_left, flags_left, context_left, targets_left, limit_left, type_left, number_left, pair_left, due_left, stage_left, goes_on}
 use Rattle.link_bundle_data.proofs.Names.{then_then, same_then, owner_ends, by_eid-then, name_begins}
 
 -- ---- a row
@@ -198,7 +198,7 @@ eid_turn owner draft bytes next =
 
 type_turn : (is_report : Bool) (type : ℕ) (draft : Draft) (bytes : List ℕ) (next : ℕ)
     → located bytes (if is_report then report_left draft bytes next
-    else ended (found.OtherRecord type) draft bytes next)
+    else item_ended (found.OtherRecord type) draft bytes next)
     ≡ rest_at ((if is_report then AtHead due.Report else Read (found.OtherRecord type)), draft)
     bytes next
 unfolding stage_left due_left

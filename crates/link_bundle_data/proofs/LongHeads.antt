@@ -29,7 +29,7 @@ use Rattle.link_bundle_data.specs.{BlockData.{data_of}, LongHeads.{judged_part, 
 use Rattle.link_bundle_data.specs.DataRows.{integer, boolean, assertion, four_or_six, four_or_more, one_or_two}
 use Rattle.link_bundle_data.specs.Turns.{after_eid, name_due, first_of, specific, first_number, targets_due, with_others, with_targets, with_context, took, took_dtn, took_asserted, judged}
 use Rattle.link_bundle_data.specs.Left.{data_from, may_follow, if_judged}
-use Rattle.link_bundle_data.specs.Scan.{HasScanned, IsFirstLong}
+use Rattle.link_bundle_data.specs.Scan.{HasScanned, IsFirstLongHead}
 
 -- ---- the bytes of a name after a head
 
@@ -235,7 +235,7 @@ stage_content (due.Asserted status has_time) size head draft new stage is =
 -- ---- a scan whose stage is known
 
 pub long_at : {kind : DataKind} (scan : DataScan) {stage : DataStage} {seen : List ℕ}
-    → scan.stage ≡ stage → HasScanned kind scan seen → IsFirstLong stage scan.long scan.offset seen
+    → scan.stage ≡ stage → HasScanned kind scan seen → IsFirstLongHead stage scan.long scan.offset seen
 long_at scan is come = rw is at come.long
 
 -- ---- more bytes
@@ -245,7 +245,7 @@ entered_long : (stage : DataStage) (long : Option ℕ) (offset : ℕ) (seen : Li
     → offset ≡ length seen
     → ((more : List ℕ) → first_from is_long 0 0 (seen ++ more)
     ≡ option_or long (first_from is_long (inside_of stage) (length seen) more))
-    → IsFirstLong stage long offset seen
+    → IsFirstLongHead stage long offset seen
 unfolding first_from
 entered_long (Head which) long offset seen here reads = λ more.
     rw (here, drop-append_seam seen more) (reads more)
@@ -258,17 +258,17 @@ entered_long (Failed fault) long offset seen here reads = tt
 
 -- more bytes of a head
 pub long_more : (which : Due) (long : Option ℕ) (offset : ℕ) (seen run : List ℕ)
-    → IsFirstLong (Head which) long offset seen → IsFirstLong (Head which) long offset (seen ++ run)
+    → IsFirstLongHead (Head which) long offset seen → IsFirstLongHead (Head which) long offset (seen ++ run)
 long_more which long offset seen run come = λ more.
     rw (append_assoc seen run more) (come (run ++ more))
 
 -- a whole head
 pub long_turned : (which : Due) (old : Option ℕ) (stage : DataStage) (offset count size : ℕ)
     (seen : List ℕ) (head : HeadItem)
-    → IsFirstLong (Head which) old offset seen → offset ≤ length seen → count ≡ length seen
+    → IsFirstLongHead (Head which) old offset seen → offset ≤ length seen → count ≡ length seen
     → head_front (drop offset seen) ≡ Whole head (length (drop offset seen))
     → size ≡ length (drop offset seen) → inside_of stage ≡ content_size head
-    → IsFirstLong stage (option_or old (then_some (is_long head size) offset)) count seen
+    → IsFirstLongHead stage (option_or old (then_some (is_long head size) offset)) count seen
 long_turned which old stage offset count size seen head come within counted whole sized content =
     let run = drop offset seen in
     let next : offset + length (drop offset seen) ≡ length seen =
@@ -284,9 +284,9 @@ long_turned which old stage offset count size seen head come within counted whol
 
 -- more bytes of a name
 pub long_named : (owner : Owner) (left : ℕ) (long : Option ℕ) (stage : DataStage)
-    (offset count : ℕ) (seen run : List ℕ) → IsFirstLong (Name owner left) long offset seen
+    (offset count : ℕ) (seen run : List ℕ) → IsFirstLongHead (Name owner left) long offset seen
     → length run ≤ left → stage ≡ name_due owner (left - length run)
-    → count ≡ length (seen ++ run) → IsFirstLong stage long count (seen ++ run)
+    → count ≡ length (seen ++ run) → IsFirstLongHead stage long count (seen ++ run)
 long_named owner left long stage offset count seen run come within is counted =
     let inside_it : inside_of stage ≡ left - length run =
     ap inside_of is ∙ name_inside owner (left - length run) in
@@ -297,8 +297,8 @@ long_named owner left long stage offset count seen run come within is counted =
 
 -- bytes after the item
 pub long_read : (found : Found) (long : Option ℕ) (offset : ℕ) (seen run : List ℕ)
-    → offset ≤ length seen → IsFirstLong (Read found) long offset seen
-    → IsFirstLong (Read found) long offset (seen ++ run)
+    → offset ≤ length seen → IsFirstLongHead (Read found) long offset seen
+    → IsFirstLongHead (Read found) long offset (seen ++ run)
 long_read found long offset seen run within come = rw (take-append-le offset seen run within) come
 
 -- ---- the first long head of the bytes seen
@@ -327,7 +327,7 @@ judged_long (found.OtherRecord type) draft long offset seen ends is = refl
 
 pub result_long : (kind : DataKind) (found : Found) (draft : Draft) (long : Option ℕ) (offset : ℕ)
     (seen : List ℕ) → data_of kind seen ≡ Ok (data_from found draft offset)
-    → IsTrue (may_follow found || (offset == length seen)) → IsFirstLong (Read found) long offset seen
+    → IsTrue (may_follow found || (offset == length seen)) → IsFirstLongHead (Read found) long offset seen
     → if_judged found long ≡ long_head kind seen
 unfolding long_head
 result_long kind found draft long offset seen reads ends is =

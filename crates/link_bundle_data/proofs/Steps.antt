@@ -15,11 +15,11 @@ use Rattle.link_bundle_blocks.proofs.Seen.{next_run, nothing_yet, AreBytes-appen
 use Rattle.link_bundle_data.specs.declared.{kind.DataKind.DataKind, due.Due.Due, due.Owner.Owner, values.DataFault.DataFault}
 use Rattle.link_bundle_data.specs.declared.due.{Found.Found, DataStage.DataStage}
 use Rattle.link_bundle_data.specs.declared.due.DataStage.TheVariants.{Head, Name, Read, Failed}
-use Rattle.link_bundle_data.specs.{declared.draft.Draft.Draft, BlockData.{alone, is_limit, located, data_of}}
+use Rattle.link_bundle_data.specs.{declared.draft.Draft.Draft, BlockData.{alone, exceeds_limit, located, data_of}}
 use Rattle.link_bundle_data.specs.Turns.{first_due, took_run, judged}
 use Rattle.link_bundle_data.specs.Left.{may_follow, stage_left, goes_on}
 use Rattle.link_bundle_data.specs.{declared.scan.DataScan.DataScan, Fits.scan_fits}
-use Rattle.link_bundle_data.specs.Scan.{HasScannedBy, HasScanned, HasScannedToHead, TakesRun, IsAtStage}
+use Rattle.link_bundle_data.specs.Scan.{HasScannedBy, HasScanned, HasHeadToJudge, TakesRun, DataStageFits}
 use Rattle.link_bundle_data.proofs.{Heads.head_turn, Names.name_goes_on, Starts.starts}
 use Rattle.link_bundle_data.proofs.Stops.{due_left-stopped}
 
@@ -46,7 +46,7 @@ grown_reads {seen = seen} come run more = rw (append_assoc seen run more) (come.
 -- ---- a stage that is entered
 
 stands_entered : (stage : DataStage) (head : HeadScan) (offset : ℕ) (seen : List ℕ)
-    → offset ≡ length seen → HasScannedHead head [] → IsAtStage stage head offset seen
+    → offset ≡ length seen → HasScannedHead head [] → DataStageFits stage head offset seen
 unfolding head_front
 stands_entered (Head which) head offset seen here fresh = record {
   in_bytes = omega arith;
@@ -84,7 +84,7 @@ begun {kind = kind} draft first fresh =
 module _ {kind : DataKind} {which : Due} {draft : Draft} {head : HeadScan} {offset count : ℕ}
     {seen : List ℕ} (come : HasScannedBy kind (Head which) draft head offset count seen) where
   pub grown_head : {new : ℕ} (run : List ℕ) → AreBytes run → new ≡ count + length run
-      → HasScannedToHead kind which draft offset new (seen ++ run)
+      → HasHeadToJudge kind which draft offset new (seen ++ run)
   unfolding stage_left
   grown_head run are grows = record {
     all_bytes = AreBytes-append seen run come.all_bytes are;
@@ -115,7 +115,7 @@ failed all counted reads = record { all_bytes = all; counted = counted; reads = 
 
 -- bytes of a head that is not judged yet
 module _ {kind : DataKind} {which : Due} {draft : Draft} {offset count : ℕ} {seen : List ℕ}
-    (come : HasScannedToHead kind which draft offset count seen) where
+    (come : HasHeadToJudge kind which draft offset count seen) where
   -- the head is not whole
   pub more_head : {head : HeadScan} → HasScannedHead head (drop offset seen)
       → head_front (drop offset seen) ≡ CutHead
@@ -163,7 +163,7 @@ module _ {kind : DataKind} {which : Due} {draft : Draft} {offset count : ℕ} {s
 
     pub refused : {fault : BundleFault} {limit : Bool} {new : Draft} {head : HeadScan}
         → Err fault ≡ judged which size item draft
-        → ((size : ℕ) → limit ≡ is_limit fault (Whole item size))
+        → ((size : ℕ) → limit ≡ exceeds_limit fault (Whole item size))
         → HasScannedBy kind (Failed (record { offset = offset; is_limit = limit })) new head offset count
         seen
     refused {fault = fault} is limits =
@@ -175,7 +175,7 @@ module _ {kind : DataKind} {which : Due} {draft : Draft} {offset count : ℕ} {s
         (whole_stays (drop offset seen) more item _ outcome) in
         turned_head is more
         ∙ ap (λ (limit : Bool). Err (record { offset = offset; is_limit = limit }))
-        (ap (λ (front : HeadFront). is_limit fault front) front ∙ sym (limits _)))
+        (ap (λ (front : HeadFront). exceeds_limit fault front) front ∙ sym (limits _)))
 
 -- ---- names
 

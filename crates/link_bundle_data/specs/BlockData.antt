@@ -85,7 +85,7 @@ security bytes = do
       }) (take 64 targets) source
       )
 
--- the assertion of a status with the time at an offset
+-- The assertion of a status with a time. The time begins at `offset`.
 abbrev pub asserted_at : List ℕ → ℕ → ReadAt Assertion
 asserted_at bytes offset = do
   (time, offset) ← row_at unsigned bytes offset
@@ -111,8 +111,9 @@ is_untimed Yes = true
 is_untimed _ = false
 
 -- A status report (RFC 9171 section 6.1.1) that begins at an offset. Of the assertions after the
--- first four, only `timed` and `untimed` are kept. The timestamp is that of the bundle. The report
--- on a fragment has six elements: the offset and the length of its payload come last.
+-- first four, only `timed` and `untimed` are kept. The source, `time` and `sequence` belong to the
+-- bundle that the report is about. If that bundle is a fragment, the report has six elements. The
+-- last two are the fragment's offset and the length of its payload.
 unfoldable pub report_at : List ℕ → ℕ → Result BlockData Stop
 report_at bytes offset = do
   (elements, offset) ← row_at four_or_six bytes offset
@@ -161,21 +162,21 @@ reading_of kind.Record bytes = administrative_record bytes
 
 -- Whether an item with this fault exceeds a limit of this toolkit: its length is indefinite, its
 -- endpoint scheme is neither dtn nor ipn, or its dtn name is long. RFC 9171 may permit such an item
--- (sections 4.1 and 4.2.5.1). Only the fault and the head at which the item fails decide, even if
--- an item of another kind is due there.
-abbrev pub is_limit : BundleFault → HeadFront → Bool
-is_limit BadScheme front = true
-is_limit EidTooLong front = true
-is_limit WrongKind (Whole head size) = is_indefinite head
-is_limit BadSpecificPart (Whole head size) = is_indefinite head
-is_limit _ front = false
+-- (sections 4.1 and 4.2.5.1). Only the fault and the head at which the item fails decide: an array
+-- of indefinite length exceeds a limit, even if a number is due there.
+abbrev pub exceeds_limit : BundleFault → HeadFront → Bool
+exceeds_limit BadScheme front = true
+exceeds_limit EidTooLong front = true
+exceeds_limit WrongKind (Whole head size) = is_indefinite head
+exceeds_limit BadSpecificPart (Whole head size) = is_indefinite head
+exceeds_limit _ front = false
 
--- The fault of a block's data, which is one item, by the offset at which its reading stops. That is
--- at the head that is refused, at the end of the bytes if they cut the item short, or at the first
--- byte after the item.
+-- The fault of a block's data, if its reading stops with `fault` at `offset`. The offset is where a
+-- refused head begins, where the bytes end if they cut the item short, or where bytes follow the
+-- item. The definition `exceeds_limit` judges the fault and the head there.
 abbrev pub fault_at : List ℕ → BundleFault → ℕ → DataFault
 fault_at bytes fault offset =
-    record { offset = offset; is_limit = is_limit fault (head_front (drop offset bytes)) }
+    record { offset = offset; is_limit = exceeds_limit fault (head_front (drop offset bytes)) }
 
 -- the result of a reading, with its stop as the fault of the data
 abbrev pub located : List ℕ → Result BlockData Stop → Result BlockData DataFault

@@ -19,8 +19,8 @@ abbrev pub boolean_of : ℕ → Result Bool BundleFault
 boolean_of simple =
     if simple == 20 then Ok false else (if simple == 21 then Ok true else Err WrongKind)
 
--- A Boolean whose head has `size` bytes. It is one byte, f4 or f5: in three bytes or more, the head
--- is that of a float.
+-- A Boolean whose head has `size` bytes. It is one byte, f4 or f5. A head of three bytes or more
+-- with the same value belongs to a float.
 unfoldable pub boolean : ℕ → Head → Result Bool BundleFault
 boolean size head = do
   simple ← valued WrongKind ((head.major == 7) && (size == 1)) head.value

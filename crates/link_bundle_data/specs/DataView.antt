@@ -2,7 +2,7 @@
 
 use Rattle.std.specs.Prelude.{Result, Ok, Err}
 use Rattle.link_bundle_types.specs.EidView.{viewed_eid}
-use Rattle.link_bundle_types.specs.ShortNames.{IsShort}
+use Rattle.link_bundle_types.specs.ShortNames.{HasNoLongName}
 use Rattle.link_bundle_data.specs.declared.values.{DataFault.DataFault, DataView.DataView}
 use Rattle.link_bundle_data.specs.declared.values.DataView.TheVariants as view
 use Rattle.link_bundle_data.specs.BlockData.{BlockData, PreviousNode, BundleAge, HopCount, Security, StatusReport, OtherRecord}
@@ -16,14 +16,14 @@ viewed_data (view.Security block targets source) = Security block targets.now (v
 viewed_data (view.StatusReport report source) = StatusReport report (viewed_eid source)
 viewed_data (view.OtherRecord type) = OtherRecord type
 
--- the result of a scan, if what the data says is given as a view
+-- the result of a scan, without borrowed bytes
 abbrev pub viewed_result : Result DataView DataFault → Result BlockData DataFault
 viewed_result (Ok view) = Ok (viewed_data view)
 viewed_result (Err fault) = Err fault
 
 -- the name of a dtn endpoint ID in the data has at most 1,024 bytes
 abbrev pub HasShortName : BlockData → Type 0
-HasShortName (PreviousNode node) = IsShort node
-HasShortName (Security block targets source) = IsShort source
-HasShortName (StatusReport report source) = IsShort source
+HasShortName (PreviousNode node) = HasNoLongName node
+HasShortName (Security block targets source) = HasNoLongName source
+HasShortName (StatusReport report source) = HasNoLongName source
 HasShortName _ = Unit {0}

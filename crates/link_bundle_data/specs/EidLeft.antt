@@ -30,7 +30,8 @@ scheme_left bytes offset = do
   (scheme, offset) ← row_at scheme bytes offset
   specific_at scheme bytes offset
 
--- a dtn endpoint ID whose name begins with `name`, and of which `left` bytes of the name are left
+-- A dtn endpoint ID, from inside its name on. The first bytes of the name, `name`, were read.
+-- The other `left` bytes were not.
 unfoldable pub name_left : List ℕ → ℕ → List ℕ → ℕ → ReadAt Eid
 name_left name left bytes offset = do
   (rest, offset) ← bytes_at left bytes offset

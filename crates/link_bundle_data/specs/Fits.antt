@@ -8,7 +8,7 @@ use Rattle.link_bundle_data.specs.declared.due.DataStage.{DataStage}
 use Rattle.link_bundle_data.specs.declared.due.DataStage.TheVariants.{Head, Name, Failed}
 use Rattle.link_bundle_data.specs.declared.draft.Draft.{Draft}
 
--- in a name, the endpoint ID has room for the bytes that are left; other stages have no bound
+-- In a name, bytes are left, and the endpoint ID has room for them. Other stages have no bound.
 abbrev pub stage_fits : DataStage → Draft → Bool
 stage_fits (Name owner left) draft = nat_lt 0 left && name_fits draft.eid left
 stage_fits _ draft = true

@@ -56,9 +56,10 @@ if_judged found.StatusReport long = None
 if_judged (found.OtherRecord type) long = None
 if_judged _ long = long
 
--- what the data says, if its item ends before `offset`, or the fault of bytes after the item
-abbrev pub ended : Found → Draft → List ℕ → ℕ → Result BlockData Stop
-ended found draft bytes offset =
+-- What the data says, if its item ends before `offset`. Bytes after the item are a fault, unless
+-- they may follow it.
+abbrev pub item_ended : Found → Draft → List ℕ → ℕ → Result BlockData Stop
+item_ended found draft bytes offset =
     if may_follow found then Ok (data_from found draft offset)
     else alone bytes offset (data_from found draft offset)
 
@@ -68,7 +69,7 @@ ended found draft bytes offset =
 abbrev pub after_fragment : Draft → List ℕ → ReadAt (Option (ℕ × ℕ)) → Result BlockData Stop
 after_fragment draft bytes reading = do
   (fragment, offset) ← reading
-  ended found.StatusReport
+  item_ended found.StatusReport
       (record draft { report = record draft.report { fragment = fragment } }) bytes offset
 
 -- the rest from the sequence number on
@@ -94,11 +95,11 @@ timestamp_left draft bytes offset = do
 
 -- the rest after the endpoint ID of this owner
 abbrev pub owner_left : Owner → Draft → List ℕ → ℕ → Result BlockData Stop
-owner_left owner.PreviousNode draft bytes offset = ended found.PreviousNode draft bytes offset
-owner_left owner.Security draft bytes offset = ended found.Security draft bytes offset
+owner_left owner.PreviousNode draft bytes offset = item_ended found.PreviousNode draft bytes offset
+owner_left owner.Security draft bytes offset = item_ended found.Security draft bytes offset
 owner_left owner.Report draft bytes offset = timestamp_left draft bytes offset
 
--- the rest from an endpoint ID on, if `reading` is the reading of it
+-- The rest from an endpoint ID on. `reading` is the reading of this endpoint ID alone.
 abbrev pub by_eid : Owner → Draft → List ℕ → ReadAt Eid → Result BlockData Stop
 by_eid owner draft bytes reading = do
   (eid, offset) ← reading
@@ -119,33 +120,33 @@ others_left left draft bytes offset = do
   (others, offset) ← items_at assertion_at left bytes offset
   reason_left (fold with_times draft others) bytes offset
 
--- ---- the rest from the assertion of each status on, if `reading` is the reading of the assertion
+-- ---- the rest from the assertion of each status on
 
--- from the assertion of deletion on
+-- The rest from the assertion of deletion on. `reading` is the reading of this assertion alone.
 abbrev pub deleted_left : Draft → List ℕ → ReadAt Assertion → Result BlockData Stop
 deleted_left draft bytes reading = do
   (deleted, offset) ← reading
   others_left draft.others (with_assertion status.Deleted deleted draft) bytes offset
 
--- from the assertion of delivery on
+-- The rest from the assertion of delivery on. `reading` is the reading of this assertion alone.
 abbrev pub delivered_left : Draft → List ℕ → ReadAt Assertion → Result BlockData Stop
 delivered_left draft bytes reading = do
   (delivered, offset) ← reading
   deleted_left (with_assertion status.Delivered delivered draft) bytes (assertion_at bytes offset)
 
--- from the assertion of forwarding on
+-- The rest from the assertion of forwarding on. `reading` is the reading of this assertion alone.
 abbrev pub forwarded_left : Draft → List ℕ → ReadAt Assertion → Result BlockData Stop
 forwarded_left draft bytes reading = do
   (forwarded, offset) ← reading
   delivered_left (with_assertion status.Forwarded forwarded draft) bytes (assertion_at bytes offset)
 
--- from the assertion of reception on
+-- The rest from the assertion of reception on. `reading` is the reading of this assertion alone.
 abbrev pub received_left : Draft → List ℕ → ReadAt Assertion → Result BlockData Stop
 received_left draft bytes reading = do
   (received, offset) ← reading
   forwarded_left (with_assertion status.Received received draft) bytes (assertion_at bytes offset)
 
--- from the assertion of this status on
+-- The rest from the assertion of this status on. `reading` is the reading of this assertion alone.
 abbrev pub by_assertion : Status → Draft → List ℕ → ReadAt Assertion → Result BlockData Stop
 by_assertion status.Received draft bytes reading = received_left draft bytes reading
 by_assertion status.Forwarded draft bytes reading = forwarded_left draft bytes reading
@@ -157,7 +158,8 @@ by_assertion (status.Other left) draft bytes reading = do
 
 -- ---- the Boolean of a status assertion, and what follows it
 
--- a status assertion, if `reading` is the reading of its Boolean; a time follows it if `has_time`
+-- A status assertion, if `reading` is the reading of its Boolean. If `has_time`, a time follows the
+-- Boolean.
 abbrev pub boolean_left : Bool → List ℕ → ReadAt Bool → ReadAt Assertion
 boolean_left has_time bytes reading = do
   (asserted, offset) ← reading
@@ -213,30 +215,30 @@ unfoldable pub limit_left : Draft → List ℕ → ℕ → Result BlockData Stop
 limit_left draft bytes offset = do
   (limit, offset) ← row_at unsigned bytes offset
   (count, offset) ← row_at unsigned bytes offset
-  ended (found.HopCount limit count) draft bytes offset
+  item_ended (found.HopCount limit count) draft bytes offset
 
 -- the rest from the type code of an administrative record on
 unfoldable pub type_left : Draft → List ℕ → ℕ → Result BlockData Stop
 type_left draft bytes offset = do
   (type, offset) ← row_at unsigned bytes offset
   if type == 1 then report_left draft bytes offset
-      else ended (found.OtherRecord type) draft bytes offset
+      else item_ended (found.OtherRecord type) draft bytes offset
 
 -- the rest after an unsigned integer, which has this meaning and this value
 abbrev pub number_left : Number → Draft → ℕ → List ℕ → ℕ → Result BlockData Stop
-number_left number.Age draft age bytes offset = ended (found.BundleAge age) draft bytes offset
+number_left number.Age draft age bytes offset = item_ended (found.BundleAge age) draft bytes offset
 number_left number.HopLimit draft limit bytes offset = do
   (count, offset) ← row_at unsigned bytes offset
-  ended (found.HopCount limit count) draft bytes offset
+  item_ended (found.HopCount limit count) draft bytes offset
 number_left (number.HopCount limit) draft count bytes offset =
-    ended (found.HopCount limit count) draft bytes offset
+    item_ended (found.HopCount limit count) draft bytes offset
 number_left (number.Target left) draft target bytes offset =
     targets_left left (with_target draft target) bytes offset
 number_left number.ContextFlags draft flags bytes offset =
     by_eid owner.Security (with_flags flags draft) bytes (eid_at bytes offset)
 number_left number.RecordType draft type bytes offset =
     if type == 1 then report_left draft bytes offset
-    else ended (found.OtherRecord type) draft bytes offset
+    else item_ended (found.OtherRecord type) draft bytes offset
 number_left (number.AssertedTime status) draft time bytes offset =
     by_assertion status draft bytes (Ok (YesAt time, offset))
 number_left number.Reason draft reason bytes offset =
@@ -249,10 +251,10 @@ number_left number.Sequence draft sequence bytes offset =
     (fragment_at draft.is_fragment bytes offset)
 number_left number.FragmentOffset draft start bytes offset = do
   (size, offset) ← row_at unsigned bytes offset
-  ended found.StatusReport
+  item_ended found.StatusReport
       (record draft { report = record draft.report { fragment = Some (start, size) } }) bytes offset
 number_left (number.FragmentLength start) draft size bytes offset =
-    ended found.StatusReport
+    item_ended found.StatusReport
     (record draft { report = record draft.report { fragment = Some (start, size) } }) bytes offset
 number_left (number.Allocator owner) draft allocator bytes offset =
     by_eid owner draft bytes (node_left (Some allocator) bytes offset)
@@ -293,14 +295,16 @@ due_left (due.Asserted status has_time) draft bytes offset =
     by_assertion status draft bytes (boolean_left has_time bytes
     (boolean_at has_time bytes offset))
 
--- The rest at a stage. The current head is at `head`, or the item ended there, and `offset` bytes
--- were seen.
+-- The rest at a stage, when `count` bytes were seen. The head that is due begins at `offset`. The
+-- rest of a name begins after the bytes seen. An item that was read ended before `offset`. The
+-- fault of malformed data stays.
 unfoldable pub stage_left : DataStage → Draft → List ℕ → ℕ → ℕ → Result BlockData DataFault
-stage_left (Head which) draft bytes head offset = located bytes (due_left which draft bytes head)
-stage_left (Name owner left) draft bytes head offset =
-    located bytes (by_eid owner draft bytes (name_left (name_of draft.eid) left bytes offset))
-stage_left (Read found) draft bytes head offset = located bytes (ended found draft bytes head)
-stage_left (Failed fault) draft bytes head offset = Err fault
+stage_left (Head which) draft bytes offset count = located bytes (due_left which draft bytes offset)
+stage_left (Name owner left) draft bytes offset count =
+    located bytes (by_eid owner draft bytes (name_left (name_of draft.eid) left bytes count))
+stage_left (Read found) draft bytes offset count =
+    located bytes (item_ended found draft bytes offset)
+stage_left (Failed fault) draft bytes offset count = Err fault
 
 -- The rest after a complete head that begins at `offset` and ends before `next`. The first argument
 -- is what the head leads to, or its fault.

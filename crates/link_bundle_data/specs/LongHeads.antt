@@ -5,8 +5,8 @@ use Rattle.link_rules_shared.specs.Heads.{is_long, first_from}
 use Rattle.link_bundle_data.specs.declared.{kind.DataKind.DataKind, values.DataFault.DataFault}
 use Rattle.link_bundle_data.specs.BlockData.{BlockData, PreviousNode, BundleAge, HopCount, Security, StatusReport, OtherRecord, data_of}
 
--- The bytes of well-formed data whose heads must not be long: all bytes, but of a security block
--- only those that are read, and of an administrative record none.
+-- The part of well-formed data in which no head may be long. In a security block, it is the bytes
+-- that are read, and in an administrative record it is empty. In other data, it is all bytes.
 abbrev pub judged_part : BlockData → List ℕ → List ℕ
 judged_part (PreviousNode node) bytes = bytes
 judged_part (BundleAge age) bytes = bytes
@@ -15,7 +15,8 @@ judged_part (Security block targets source) bytes = take block.size bytes
 judged_part (StatusReport report source) bytes = []
 judged_part (OtherRecord type) bytes = []
 
--- the first long head, if this is what the data says; `None` in malformed data
+-- The offset of the first long head in the data. The first argument is what the data says. In
+-- malformed data, no head is judged.
 abbrev pub long_in : Result BlockData DataFault → List ℕ → Option ℕ
 long_in (Ok found) bytes = first_from is_long 0 0 (judged_part found bytes)
 long_in (Err fault) bytes = None

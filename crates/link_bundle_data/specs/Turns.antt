@@ -94,7 +94,8 @@ abbrev pub with_others : ℕ → Draft → Draft
 with_others others draft =
     record draft { others = others; report = record draft.report { timed = false; untimed = false } }
 
--- the draft after one more assertion: whether some asserted status has a time, and some has none
+-- The draft after one more assertion. It keeps whether a status was asserted with a time, and
+-- whether one was asserted without a time.
 abbrev pub with_times : Draft → Assertion → Draft
 with_times draft assertion =
     record draft {
@@ -130,7 +131,8 @@ abbrev pub kept_targets : List ℕ → ℕ → List ℕ
 kept_targets targets target =
     if nat_lt (length targets) 64 then targets ++ target ∷ [] else targets
 
--- the draft after one more target: whether 0 is among the targets, and the first 64 of them
+-- The draft after one more target. It keeps whether 0 is among the targets, and the first 64
+-- targets.
 abbrev pub with_target : Draft → ℕ → Draft
 with_target draft target =
     record draft {
@@ -218,13 +220,15 @@ took_run owner left run draft = (
   with_eid (Dtn (record { items = name_of draft.eid ++ run })) draft,
 )
 
--- after the Boolean of a status assertion; the first Boolean is whether a time follows it
+-- After the Boolean of a status assertion. The first argument of type `Bool` says whether a time
+-- follows it, and the second is the Boolean.
 abbrev pub took_asserted : Status → Bool → Bool → Draft → DataStage × Draft
 took_asserted status true asserted draft = (Head (due.Number (number.AssertedTime status)), draft)
 took_asserted status false asserted draft =
     took_assertion status (if asserted then Yes else No) draft
 
--- what a complete head of `size` bytes leads to, judged by the function (row) of the head due
+-- The stage and the draft after a complete head of `size` bytes, or its fault. For each head that
+-- may be due, a function of `Rows` or `DataRows` judges whether it is there.
 abbrev pub judged : Due → ℕ → HeadItem → Draft → Result (DataStage × Draft) BundleFault
 judged (due.Number which) size head draft = unsigned head >>= λ value. Ok (took which value draft)
 judged (due.Pair which) size head draft = pair head >>= λ _. Ok (Head (first_of which), draft)

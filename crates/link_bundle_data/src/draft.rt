@@ -91,7 +91,8 @@ impl Draft {
 
     /// Judges a complete head of `size` bytes, and returns the stage after it.
     ///
-    /// A head that is not the one due has the fault of its row, here or in `link_bundle_heads`.
+    /// A function of `row`, in this crate or in `link_bundle_heads`, judges whether it is the head
+    /// that is due. If that function returns a fault, the result is the same fault.
     pub fn head(&mut self, due: Due, size: u64, head: Head) -> Result<DataStage, BundleFault>
         ensures judged { turned result self.new ≡ turns.judged due size head self.old }
         ensures fits { IfOk result (λ stage. IsTrue (stage_fits stage self.new)) }
@@ -134,7 +135,7 @@ impl Draft {
         }
     }
 
-    /// Judges the array of two elements that is due.
+    /// Judges the array of two elements that is due. The size of its head does not matter.
     fn pair(&mut self, pair: Pair, head: Head) -> Result<DataStage, BundleFault>
         ensures judged { turned result self.new ≡ turns.judged (Due.Pair pair) 0 head self.old }
         ensures fits { IfOk result (λ stage. IsTrue (stage_fits stage self.new)) }
@@ -143,7 +144,7 @@ impl Draft {
         Ok(DataStage::Head(pair.first()))
     }
 
-    /// Judges the array of the targets of a security block.
+    /// Judges the array of the targets of a security block. The size of its head does not matter.
     fn targets(&mut self, head: Head) -> Result<DataStage, BundleFault>
         ensures judged { turned result self.new ≡ turns.judged Due.Targets 0 head self.old }
         ensures fits { IfOk result (λ stage. IsTrue (stage_fits stage self.new)) }
@@ -195,7 +196,8 @@ impl Draft {
         }
     }
 
-    /// Takes a target of a security block, after which this many are left.
+    /// Takes a target of a security block, after which `left` targets follow. Only the first 64
+    /// are kept.
     fn target(&mut self, left: u64, target: u64) -> DataStage
         ensures took { (result, self.new) ≡ turns.took (Number.Target left) target self.old }
         ensures fits { IsTrue (stage_fits result self.new) }

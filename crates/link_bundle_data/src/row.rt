@@ -28,7 +28,7 @@ pub fn array(head: Head) -> Result<u64, BundleFault>
 
 /// The number of elements of a status report's array: four, or six for a fragment.
 ///
-/// Another number is `BadCount`. A head that is not that of an array with a number is `WrongKind`.
+/// Another number is `BadCount`. Another head, or an array of indefinite length, is `WrongKind`.
 #[tactic(auto, unfolding(crate::specs::DataRows::four_or_six))]
 pub fn four_or_six(head: Head) -> Result<u64, BundleFault>
     ensures { result ≡ row.four_or_six head }
@@ -78,8 +78,8 @@ pub fn integer(head: Head) -> Result<Integer, BundleFault>
 
 /// The value of a Boolean whose head has `size` bytes.
 ///
-/// It is one byte, `f4` or `f5`. A longer head of major type 7 is that of a float or of another
-/// simple value.
+/// It is one byte, `f4` for false (20) or `f5` for true (21). A longer head of major type 7
+/// belongs to a float or to another simple value.
 #[tactic(auto, unfolding(crate::specs::DataRows::boolean))]
 fn boolean(size: u64, head: Head) -> Result<bool, BundleFault>
     ensures { result ≡ row.boolean size head }

@@ -4,7 +4,7 @@ ghost use Rattle.link_cbor.specs.Head.{Whole, head_front};
 ghost use Rattle.link_cbor.specs.HeadScan.{HasScannedHead};
 ghost use Rattle.std.specs.{Bool.then_some, Option.option_or};
 ghost use Rattle.link_rules_shared.specs.Heads.{is_long};
-ghost use Rattle.link_bundle_data.specs.BlockData.{is_limit};
+ghost use Rattle.link_bundle_data.specs.BlockData.{exceeds_limit};
 ghost use Rattle.link_bundle_data.specs.Fits.{scan_fits, failed_within, long_within};
 
 use crate::draft::Draft;
@@ -37,7 +37,7 @@ pub struct DataScan {
 }
 
 /// The first bytes of a piece, at most `left` of them.
-fn first_of(piece: &[u8], left: u64) -> &[u8]
+fn first_bytes(piece: &[u8], left: u64) -> &[u8]
     ensures run { result.now ≡ take (min left (length piece.now)) piece.now }
     ensures size { length result.now ≡ min left (length piece.now) }
 {
@@ -55,10 +55,12 @@ fn no_limit(offset: u64) -> DataFault
     }
 }
 
-/// Whether an item exceeds a limit of this toolkit, by its fault and its head. The size of the head
-/// does not matter.
-fn is_limit(fault: BundleFault, head: Head) -> bool
-    ensures { (size : ℕ) → result ≡ is_limit fault (Whole head size) }
+/// Whether an item with this fault exceeds a limit of this toolkit: its scheme is neither dtn nor
+/// ipn, its dtn name is long, or its length is indefinite.
+///
+/// The item fails at `head`. The size of the head does not matter.
+fn exceeds_limit(fault: BundleFault, head: Head) -> bool
+    ensures { (size : ℕ) → result ≡ exceeds_limit fault (Whole head size) }
 {
     match fault {
         BundleFault::BadScheme | BundleFault::EidTooLong => true,
@@ -87,7 +89,7 @@ impl DataScan {
     ghost use Rattle.link_bundle_data.specs.BlockData.{data_of};
     ghost use Rattle.link_bundle_data.specs.LongHeads.{long_head};
     ghost use Rattle.link_bundle_data.specs.DataView.{viewed_data, viewed_result, HasShortName};
-    ghost use Rattle.link_bundle_data.specs.Scan.{HasScanned, HasScannedToHead, TakesRun, IsFirstLong, scan_size};
+    ghost use Rattle.link_bundle_data.specs.Scan.{HasScanned, HasHeadToJudge, TakesRun, IsFirstLongHead, scan_size};
     ghost use Rattle.link_bundle_data.specs.declared.kind.DataKind.{DataKind};
 
     /// A scan of data of this kind that has seen no byte.
@@ -110,6 +112,7 @@ impl DataScan {
         ensures seen { HasScanned kind self.new [] }
         ensures size { scan_size self.new ≡ 0 }
     {
+        // The draft stays as it is, since each of its values is set before it is read.
         self.stage = DataStage::Head(kind.first());
         self.count = 0;
         self.offset = 0;
@@ -125,12 +128,12 @@ impl DataScan {
     pub fn view(&self) -> Result<DataView<'_>, DataFault>
         ensures seen { (kind : DataKind) (seen : List ℕ) → HasScanned kind self.now seen
             → viewed_result result ≡ data_of kind seen }
-        // The fault is final if the data does not end there: more bytes do not change it.
+        // A fault before the end of the bytes seen is final: more bytes do not change it.
         ensures lasts { IfErr result (λ fault. fault.offset < scan_size self.now →
             (kind : DataKind) (seen : List ℕ) → HasScanned kind self.now seen →
             (more : List ℕ) → data_of kind (seen ++ more) ≡ Err fault) }
         ensures within { IfErr result (λ fault. fault.offset ≤ scan_size self.now) }
-        // This holds whatever was scanned, since there is no room for longer names.
+        // This holds whatever was scanned: a draft has no room for a name of more than 1,024 bytes.
         ensures short { IfOk result (λ view. HasShortName (viewed_data view)) }
     {
         match self.stage {
@@ -140,10 +143,10 @@ impl DataScan {
         }
     }
 
-    /// The offset in the data of the first head that is longer than its number needs.
+    /// The offset, in the data, of the first head that is longer than its number needs.
     ///
-    /// The bytes seen are taken as all of the data. In a security block, the heads up to the end of
-    /// its source are judged. None is judged in malformed data and in an administrative record.
+    /// The bytes seen count as all of the data. In a security block, the heads up to the end of its
+    /// source are judged. In malformed data and in an administrative record, no head is judged.
     pub fn long_head(&self) -> Option<u64>
         ensures seen { (kind : DataKind) (seen : List ℕ) → HasScanned kind self.now seen
             → result ≡ long_head kind seen }
@@ -177,7 +180,7 @@ impl DataScan {
         match self.stage {
             DataStage::Head(due) => self.advance_head(due, piece),
             DataStage::Name(owner, left) => {
-                let run = first_of(piece, left);
+                let run = first_bytes(piece, left);
                 self.name_run(owner, left, run);
                 run.len()
             }
@@ -192,7 +195,8 @@ impl DataScan {
         }
     }
 
-    /// Takes the next bytes of a head: the whole head if the piece has it, or else one byte.
+    /// Takes the head that is due, if it begins here and lies whole in the piece, or else its next
+    /// byte. Returns the number of bytes taken.
     fn advance_head(&mut self, due: Due, piece: &[u8]) -> usize
         requires stage { self.old.stage ≡ DataStage.Head due }
         requires some { 0 < length piece.now }
@@ -230,7 +234,7 @@ impl DataScan {
         }
     }
 
-    /// Takes a head that lies whole in a piece.
+    /// Takes the bytes `run`, which are one whole head.
     fn head_run(&mut self, due: Due, head: Head, run: &[u8])
         requires stage { self.old.stage ≡ DataStage.Head due }
         requires begins { self.old.offset ≡ self.old.count }
@@ -242,13 +246,14 @@ impl DataScan {
         self.take_head(due, run.len() as u64, head);
     }
 
-    /// Judges a complete head of `size` bytes, from `offset` on: the last bytes seen.
+    /// Judges a complete head, which begins at `offset`. Its `size` bytes are the last bytes seen,
+    /// and `count` includes them.
     fn take_head(&mut self, due: Due, size: u64, head: Head)
         requires stage { self.old.stage ≡ DataStage.Head due }
         ensures size { scan_size self.new ≡ scan_size self.old }
         ensures seen { (kind : DataKind) (seen : List ℕ)
-            → HasScannedToHead kind due self.old.draft self.old.offset self.old.count seen
-            → IsFirstLong (DataStage.Head due) self.old.long self.old.offset seen
+            → HasHeadToJudge kind due self.old.draft self.old.offset self.old.count seen
+            → IsFirstLongHead (DataStage.Head due) self.old.long self.old.offset seen
             → head_front (drop self.old.offset seen) ≡ Whole head (length (drop self.old.offset seen))
             → size ≡ length (drop self.old.offset seen)
             → HasScannedHead self.old.head []
@@ -263,7 +268,7 @@ impl DataScan {
             Err(fault) => {
                 self.stage = DataStage::Failed(DataFault {
                     offset: self.offset,
-                    is_limit: is_limit(fault, head),
+                    is_limit: exceeds_limit(fault, head),
                 });
             }
         }

@@ -6,7 +6,7 @@ use Rattle.link_bundle_types.specs.declared.info.BundleInfo.{BundleInfo}
 use Rattle.link_bundle_types.specs.Faults.{lasts}
 use Rattle.link_bundle_blocks.specs.Bundle.{judged_bundle, bundle_at, opening_at, verdict, state_of, is_going, bundle_goes, blocks_in}
 use Rattle.link_bundle_blocks.specs.declared.block.CanonicalBlock.{CanonicalBlock}
-use Rattle.link_bundle_blocks.proofs.Lengths.{FaultLasts-holds, TrailingLasts-holds}
+use Rattle.link_bundle_blocks.proofs.Lengths.{FaultLasts-holds, ByteAfterBundleIsTrailing-holds}
 use Rattle.link_bundle_data_in_pieces.specs.Found.{data_in}
 
 -- ---- the elements of a list
@@ -40,7 +40,7 @@ stops_by : (bytes more : List ℕ) (outcome : Result BundleInfo (BundleFault × 
     → bundle_goes (bytes ++ more) ≡ false
 stops_by bytes [] (Ok info) is stops = rw (append-nil bytes, is) refl
 stops_by bytes (byte ∷ more) (Ok info) is stops =
-    rw (TrailingLasts-holds bytes more byte info is) refl
+    rw (ByteAfterBundleIsTrailing-holds bytes more byte info is) refl
 stops_by bytes more (Err (fault, offset)) is stops = by_lasting (lasts fault) refl
   where
     by_lasting : (test : _) → lasts fault ≡ test → bundle_goes (bytes ++ more) ≡ false

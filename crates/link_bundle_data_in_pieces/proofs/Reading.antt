@@ -7,7 +7,7 @@ use Rattle.link_bundle.specs.Scan.{HasScanned, ending}
 use Rattle.link_bundle_blocks.specs.declared.block.CanonicalBlock.{CanonicalBlock}
 use Rattle.link_bundle.specs.declared.scan.BundleScan.{BundleScan}
 use Rattle.link_bundle_blocks.proofs.Lying.{BlocksWithin-holds}
-use Rattle.link_bundle_blocks.proofs.Showing.{NoBlocksAfterEnd-holds, NextBlockIsCutOrLater-holds}
+use Rattle.link_bundle_blocks.proofs.Showing.{NoBlocksAfterBundleEnd-holds, NextBlockIsCutOrLater-holds}
 use Rattle.link_bundle.proofs.Verdicts.{no_cut}
 use Rattle.link_bundle_data_in_pieces.specs.{Found.flags_after, DataReader.{IsDataReaderAt, IsDataReaderIn}}
 use Rattle.link_bundle_data_in_pieces.specs.declared.data.DataReader.{DataReader}
@@ -68,7 +68,7 @@ read_on reader flags seen run was grown is at_cut = record {
 pub read_end : (reader : DataReader) (content more : List ℕ) → IsDataReaderAt reader content
     → bundle_goes content ≡ false → IsDataReaderAt reader (content ++ more)
 read_end reader content more reading stops = record {
-  flags = rw (NoBlocksAfterEnd-holds content more stops) reading.flags;
+  flags = rw (NoBlocksAfterBundleEnd-holds content more stops) reading.flags;
   at_cut = λ goes block cut. absurd (false≢true (sym (goes_stops content more stops) ∙ goes));
 }
 

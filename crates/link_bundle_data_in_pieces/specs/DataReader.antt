@@ -24,8 +24,9 @@ pub record IsDataReaderIn (now : DataReader) (seen : List ℕ) (block : Canonica
   pub scanned : (kind : DataKind) → now.kind ≡ Some kind
       → HasScanned kind now.scan (data_in seen block)
 
--- The reader has the flags of the bundle, or 0 if its primary block is not whole. If the bytes end
--- inside the data or the check field of a block, the reader has read this data so far.
+-- The reader keeps the flags of the bundle, or 0 if the primary block is not whole. If the bytes
+-- end inside the bundle, in the data or the check field of a block, the reader has read this data
+-- so far.
 pub record IsDataReaderAt (now : DataReader) (seen : List ℕ) : Type 0 where
   pub flags : now.flags ≡ fold flags_after 0 (blocks_in seen)
   pub at_cut : bundle_goes seen ≡ true → (block : CanonicalBlock)

@@ -13,14 +13,15 @@ abbrev pub data_in : (content : List ℕ) → CanonicalBlock → List ℕ
 data_in content block = take block.data_length (drop block.data_start content)
 
 -- What the data of a block says, or its fault. It is `None` for a block whose data is not read.
--- `flags` are those of the bundle.
+-- `content` is the bytes of the bundle so far, and `flags` are the flags of the bundle.
 abbrev pub found_in : (flags : ℕ) → (content : List ℕ) → CanonicalBlock
     → Option (Result BlockData DataFault)
 found_in flags content block =
     option_map (λ kind. data_of kind (data_in content block)) (kind_of flags block.block_type)
 
--- The offset, in a block's data, of the first head that is longer than its number needs. Only the
--- heads that are read count. It is `None` if there is no such head, or the data is not read.
+-- The offset, in a block's data, of the first head that is longer than its number needs.
+-- `long_head` says which heads are judged. The result is `None` if none of them is so long, or data
+-- of this block's type is not read. `content` is the bytes of the bundle so far.
 abbrev pub long_head_in : (flags : ℕ) → (content : List ℕ) → CanonicalBlock → Option ℕ
 long_head_in flags content block =
     option_and_then (λ kind. long_head kind (data_in content block))

@@ -67,7 +67,7 @@ impl DataReader {
     }
 
     /// Reads those bytes of a block's data that are in `run`, which follows the first `before`
-    /// bytes of the bundle. If no byte of the data came before the run, it begins the data.
+    /// bytes of the bundle. If no byte of the data came before `run`, calls `begin` first.
     #[inline(always)]
     fn take(&mut self, block: &CanonicalBlock, before: u64, run: &[u8])
         requires room { before + length run.now < 2 ^ 63 }
@@ -90,9 +90,10 @@ impl DataReader {
     }
 
     /// Reads the data in `run`, whose last byte is the last byte of the block `ended`. The run
-    /// comes after the bundle's first `before` bytes.
+    /// comes after the bundle's first `before` bytes. If `ended` is the primary block, no data is
+    /// read, and the flags of the bundle are kept.
     ///
-    /// The scan has seen the run. No other block ends in it.
+    /// `scan`, the scan of the bundle, has seen the run. No other block ends in the run.
     #[inline(always)]
     pub fn follow(&mut self, before: u64, run: &[u8], ended: &BlockView<'_>, scan: &BundleScan)
         requires room { before + length run.now < 2 ^ 63 }
@@ -105,6 +106,7 @@ impl DataReader {
             → HasScannedBundle scan.now (seen ++ run.now)
             → blocks_in (seen ++ run.now) ≡ blocks_in seen ++ ending scan.now
             → IsDataReaderAt self.new (seen ++ run.now) }
+        // If `ended` is a canonical block, and data of its type is read, all of its data was read.
         ensures whole { (seen : List ℕ) (block : CanonicalBlock) → length seen ≡ before
             → IsDataReaderAt self.old seen → bundle_goes seen ≡ true
             → blocks_in (seen ++ run.now) ≡ blocks_in seen ++ ending scan.now
@@ -136,7 +138,8 @@ impl DataReader {
         }
     }
 
-    /// What the data of the latest block says, or why it is malformed; `None` if it is not read.
+    /// What the data of the latest block says, or why it is malformed. `None` if data of this
+    /// block's type is not read.
     #[inline(always)]
     pub fn found(&self) -> Option<Result<DataView<'_>, DataFault>>
         ensures found { (seen : List ℕ) (block : CanonicalBlock)
@@ -151,9 +154,9 @@ impl DataReader {
         }
     }
 
-    /// The offset of the first head that is longer than its number needs, in the data of the latest
-    /// block. Only the heads that are read count. It is `None` if there is no such head, or the
-    /// data is not read.
+    /// The offset, in the data of the latest block, of the first head that is longer than its
+    /// number needs. `DataScan::long_head` says which heads are judged. `None` if none of them is
+    /// so long, or data of this block's type is not read.
     pub fn long_head(&self) -> Option<u64>
         ensures found { (seen : List ℕ) (block : CanonicalBlock)
             → IsDataReaderIn self.now seen block

@@ -81,7 +81,7 @@ kind_of_type number =
     (if number == 1 then Ok (Some Crc16) else
     (if number == 2 then Ok (Some Crc32) else Err BadCheckType))
 
--- the check type that a head has the number of
+-- the check type whose number is the value of this head
 unfoldable pub check_type : Head → Result (Option CheckKind) BundleFault
 check_type head = do
   number ← unsigned head
@@ -117,11 +117,13 @@ dtn_by major (Some value) =
 unfoldable pub dtn_part : Head → Result (Option ℕ) BundleFault
 dtn_part head = dtn_by head.major head.value
 
--- the number of elements of the specific part of scheme ipn: an array of two or three numbers
+-- The number of elements of the specific part of scheme ipn, by the result of `array` for its head.
+-- An item that is no array has the fault `BadSpecificPart`.
 abbrev pub ipn_count : Result ℕ BundleFault → Result ℕ BundleFault
 ipn_count (Ok count) = wanted ((count == 2) || (count == 3)) count BadCount
 ipn_count (Err fault) = Err BadSpecificPart
 
+-- the number of elements of the specific part of scheme ipn: an array of two or three numbers
 unfoldable pub ipn_part : Head → Result ℕ BundleFault
 ipn_part head = ipn_count (array head)
 
@@ -133,7 +135,8 @@ block head =
       count ← array head
       wanted (nat_le 5 count && nat_le count 6) count BadCount
 
--- the head of a block after 64 blocks, where another block is a fault: never a value
+-- The judgement of the head after 64 blocks. The result is always a fault: the fault that `block`
+-- finds, or else `TooManyBlocks`.
 unfoldable pub block_too_many : Head → Result ℕ BundleFault
 block_too_many head = do
   count ← block head

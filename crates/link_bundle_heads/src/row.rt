@@ -147,6 +147,8 @@ pub fn is_fragment(flags: u64) -> bool
 }
 
 /// The check type, which is `None` for 0 (RFC 9171 section 4.2.1).
+///
+/// The faults are `WrongKind` and `BadCheckType`, in this order.
 #[inline(always)]
 #[tactic(auto, unfolding(crate::specs::Rows::check_type))]
 fn check_type(head: Head) -> Result<Option<CheckKind>, BundleFault>
@@ -213,7 +215,7 @@ pub fn scheme(head: Head) -> Result<Scheme, BundleFault>
 
 /// The specific part of scheme dtn: the length of its name in bytes, or `None` for `dtn:none`.
 ///
-/// The fault of a name of more than 1,024 bytes is `EidTooLong`, and that of another item is
+/// The fault of a name of more than 1,024 bytes is `EidTooLong`. The fault of another item is
 /// `BadSpecificPart`.
 #[inline(always)]
 #[tactic(auto, unfolding(crate::specs::Rows::dtn_part))]
@@ -232,7 +234,7 @@ pub fn dtn_part(head: Head) -> Result<Option<u64>, BundleFault>
 
 /// The specific part of scheme ipn: the number of elements of its array, two or three.
 ///
-/// The fault of another array is `BadCount`, and that of another item is `BadSpecificPart`.
+/// The fault of another array is `BadCount`. The fault of another item is `BadSpecificPart`.
 #[inline(always)]
 #[tactic(auto, unfolding(crate::specs::Rows::ipn_part))]
 pub fn ipn_part(head: Head) -> Result<u64, BundleFault>
@@ -246,10 +248,10 @@ pub fn ipn_part(head: Head) -> Result<u64, BundleFault>
     }
 }
 
-/// The number of elements of a canonical block's array, while the payload block is still to come.
+/// The number of elements of a canonical block's array, 5 or 6.
 ///
-/// The fault of the break is `NoPayloadLast`. The faults of other heads are `WrongKind` and
-/// `BadCount`, in this order.
+/// The payload block is still to come, so the fault of the break is `NoPayloadLast`. The faults of
+/// other heads are `WrongKind` and `BadCount`, in this order.
 #[inline(always)]
 #[tactic(auto, unfolding(crate::specs::Rows::block))]
 pub fn block(head: Head) -> Result<u64, BundleFault>
@@ -266,7 +268,7 @@ pub fn block(head: Head) -> Result<u64, BundleFault>
 }
 
 /// Whether a number is among these.
-// A loop, since `contains` is a call: for a few numbers it takes longer than the comparisons.
+// A loop instead of `contains`: for a few numbers, a call takes longer than the comparisons.
 #[inline(always)]
 fn is_among(number: u64, numbers: &[u64]) -> bool
     ensures { result ≡ list_any (λ earlier. earlier == number) numbers.now }
@@ -327,7 +329,7 @@ pub fn check_width(kind: CheckKind) -> u64
     }
 }
 
-/// The length of a check field's content in bytes, which has to be that of this kind of check.
+/// The length of a check field's content in bytes, which has to be `check_width(kind)`.
 ///
 /// The faults are `WrongCheckKind` and `BadCheckLength`, in this order.
 #[inline(always)]

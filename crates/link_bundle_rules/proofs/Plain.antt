@@ -10,8 +10,8 @@ use Rattle.link_bundle_rules.specs.Fragments.{fragment, whole_fragment}
 use Rattle.link_bundle_rules.specs.Heads.{data_head, long_head}
 use Rattle.link_bundle_rules.specs.Hidden.{is_hidden_block, unless_hidden, first_readable}
 use Rattle.link_bundle_rules.specs.Kept.{is_plain_data, is_plain_block, is_plain_primary, has_plain_counts, is_plain}
-use Rattle.link_bundle_rules.specs.ReadBundle as block
-use Rattle.link_bundle_rules.specs.ReadBundle.{ReadBundle, is_of_type, is_extension, is_security_block, count_of_type, find_map}
+use Rattle.link_bundle_rules.specs.BundleFacts as block
+use Rattle.link_bundle_rules.specs.BundleFacts.{BundleFacts, is_of_type, is_extension, is_security_block, count_of_type, find_map}
 use Rattle.link_bundle_rules.specs.Records.{administrative_record, record_type, report_of, report_times, report_empty, report_reason, report_source}
 use Rattle.link_bundle_rules.specs.Security.{primary_check, confidential_primary, security_flags, security_context, confidential_flags, confidential_context}
 use Rattle.link_bundle_rules.specs.Targets.{if_counted, first_counted, first_target, if_bad_targets, missing_target, security_targets, security_twice, integrity_target, confidential_target, shared_target}
@@ -20,7 +20,7 @@ use Rattle.link_bundle_rules.specs.declared.{extensions.Hops.Hops, rule.BundleRu
 
 -- ---- the primary block
 
-record KeepsPrimary (bundle : ReadBundle) : Type 0 where
+record KeepsPrimary (bundle : BundleFacts) : Type 0 where
   flags : bundle_flags bundle ≡ None
   check : primary_check bundle ≡ None
   anonymous : anonymous bundle ≡ None
@@ -30,7 +30,7 @@ record KeepsPrimary (bundle : ReadBundle) : Type 0 where
   whole : whole_fragment bundle ≡ None
   source : source_node bundle ≡ None
 
-primary_keeps : (bundle : ReadBundle) → is_plain_primary bundle.primary ≡ true
+primary_keeps : (bundle : BundleFacts) → is_plain_primary bundle.primary ≡ true
     → KeepsPrimary bundle
 unfolding bundle_flags primary_check anonymous record_reports fragment whole_fragment source_node
 primary_keeps bundle plain = record {
@@ -46,7 +46,7 @@ primary_keeps bundle plain = record {
 
 -- ---- single blocks
 
-abbrev ArePlain : ReadBundle → Type 0
+abbrev ArePlain : BundleFacts → Type 0
 ArePlain bundle = list_all (is_plain_block bundle.primary.lifetime) bundle.blocks ≡ true
 
 none_found : {A : Type 0} (lifetime : ℕ) (f : BlockFacts → Option A)
@@ -62,7 +62,7 @@ none_found lifetime f none (read ∷ more) all =
 abbrev FirstPlain : (lifetime : ℕ) → Option BlockFacts → Type 0
 FirstPlain lifetime found = IfSome found (λ read. is_plain_block lifetime read ≡ true)
 
-unless_keeps : (bundle : ReadBundle) (read : BlockFacts)
+unless_keeps : (bundle : BundleFacts) (read : BlockFacts)
     → is_plain_block bundle.primary.lifetime read ≡ true
     → FirstPlain bundle.primary.lifetime (unless_hidden bundle read)
 unless_keeps bundle read plain =
@@ -72,7 +72,7 @@ unless_keeps bundle read plain =
       | false ↦ plain
     ]
 
-first_keeps : (bundle : ReadBundle) (test : BlockFacts → Bool) (blocks : List BlockFacts)
+first_keeps : (bundle : BundleFacts) (test : BlockFacts → Bool) (blocks : List BlockFacts)
     → list_all (is_plain_block bundle.primary.lifetime) blocks ≡ true
     → FirstPlain bundle.primary.lifetime (option_and_then (unless_hidden bundle) (find test blocks))
 first_keeps bundle test [] all = tt
@@ -86,7 +86,7 @@ first_keeps bundle test (read ∷ more) all =
       | false ↦ first_keeps bundle test more both.1
     ]
 
-readable_keeps : (bundle : ReadBundle) (type : ℕ) → ArePlain bundle
+readable_keeps : (bundle : BundleFacts) (type : ℕ) → ArePlain bundle
     → FirstPlain bundle.primary.lifetime (first_readable type bundle)
 unfolding first_readable
 readable_keeps bundle type all = first_keeps bundle (is_of_type type) bundle.blocks all
@@ -129,7 +129,7 @@ none_if : (test : Bool) (broken : Option BundleRule) → broken ≡ None
 none_if true broken none = none
 none_if false broken none = refl
 
-pub record KeepsBlocks (bundle : ReadBundle) : Type 0 where
+pub record KeepsBlocks (bundle : BundleFacts) : Type 0 where
   pub reports : block_reports bundle ≡ None
   pub flags : block_flags bundle ≡ None
   pub limit : has_bad_limit (first_hops bundle) ≡ false
@@ -138,7 +138,7 @@ pub record KeepsBlocks (bundle : ReadBundle) : Type 0 where
   pub unread : data_not_read bundle ≡ None
   pub types : block_type bundle ≡ None
 
-pub blocks_keep : (bundle : ReadBundle) → ArePlain bundle → KeepsBlocks bundle
+pub blocks_keep : (bundle : BundleFacts) → ArePlain bundle → KeepsBlocks bundle
 unfolding block_reports block_flags first_hops hops block_data data_not_read block_type
 blocks_keep bundle all =
     let blocks = bundle.blocks in
@@ -163,7 +163,7 @@ blocks_keep bundle all =
 
 -- ---- rules of the data of blocks
 
-record KeepsData (bundle : ReadBundle) : Type 0 where
+record KeepsData (bundle : BundleFacts) : Type 0 where
   names : find_map (bad_name_of bundle) bundle.blocks ≡ None
   security_heads : data_head is_security_block bundle ≡ None
   extension_heads : data_head is_extension bundle ≡ None
@@ -173,7 +173,7 @@ record KeepsData (bundle : ReadBundle) : Type 0 where
   record_types : record_type bundle ≡ None
   report : report_of bundle ≡ None
 
-data_keeps : (bundle : ReadBundle) → ArePlain bundle → KeepsData bundle
+data_keeps : (bundle : BundleFacts) → ArePlain bundle → KeepsData bundle
 unfolding previous_node_id expired administrative_record record_type report_of
 data_keeps bundle all =
     let blocks = bundle.blocks in
@@ -193,13 +193,13 @@ data_keeps bundle all =
       report = none_first lifetime _ (λ read plain. grind (arith, nat_tests)) _ payload;
     }
 
-record KeepsReport (bundle : ReadBundle) : Type 0 where
+record KeepsReport (bundle : BundleFacts) : Type 0 where
   times : report_times bundle ≡ None
   empty : report_empty bundle ≡ None
   reason : report_reason bundle ≡ None
   source : report_source bundle ≡ None
 
-report_keeps : (bundle : ReadBundle) → report_of bundle ≡ None → KeepsReport bundle
+report_keeps : (bundle : BundleFacts) → report_of bundle ≡ None → KeepsReport bundle
 unfolding report_times report_empty report_reason report_source
 report_keeps bundle none = record {
   times = rw none refl;
@@ -211,17 +211,17 @@ report_keeps bundle none = record {
 -- ---- the numbers of blocks
 
 -- one hop count block at most, whose limit is right
-pub one_hop_count : (bundle : ReadBundle) → count_of_type block.hop_count bundle.blocks ≤ 1
+pub one_hop_count : (bundle : BundleFacts) → count_of_type block.hop_count bundle.blocks ≤ 1
     → has_bad_limit (first_hops bundle) ≡ false → hop_count bundle ≡ None
 unfolding hop_count
 one_hop_count bundle few limit = grind (arith, nat_tests)
 
-record KeepsCounts (bundle : ReadBundle) : Type 0 where
+record KeepsCounts (bundle : BundleFacts) : Type 0 where
   ages : age bundle ≡ None
   previous_nodes : previous_node bundle ≡ None
   hop_counts : has_bad_limit (first_hops bundle) ≡ false → hop_count bundle ≡ None
 
-counts_keep : (bundle : ReadBundle) → has_plain_counts bundle ≡ true → KeepsCounts bundle
+counts_keep : (bundle : BundleFacts) → has_plain_counts bundle ≡ true → KeepsCounts bundle
 unfolding age previous_node hop_count
 counts_keep bundle plain = record {
   ages = grind (arith, nat_tests);
@@ -231,7 +231,7 @@ counts_keep bundle plain = record {
 
 -- ---- no security blocks
 
-record KeepsSecurity (bundle : ReadBundle) : Type 0 where
+record KeepsSecurity (bundle : BundleFacts) : Type 0 where
   primary : confidential_primary bundle ≡ None
   targets : security_targets bundle ≡ None
   twice : security_twice bundle ≡ None
@@ -248,41 +248,41 @@ none_in : {A B : Type 0} (f : A → Option B) (elements : List A) → elements �
     → find_map f elements ≡ None
 none_in f elements empty = rw empty refl
 
-none_asked : (bundle : ReadBundle) (test : SecurityFacts → ℕ → Bool) (broken : ℕ × ℕ → BundleRule)
+no_target : (bundle : BundleFacts) (test : SecurityFacts → ℕ → Bool) (broken : ℕ × ℕ → BundleRule)
     → bundle.security ≡ [] → option_map broken (first_counted bundle (first_target test)) ≡ None
-none_asked bundle test broken empty =
+no_target bundle test broken empty =
     let none : first_counted bundle (first_target test) ≡ None =
     none_in (if_counted bundle (first_target test)) bundle.security empty in
     rw none refl
 
-none_missing : (bundle : ReadBundle) → bundle.security ≡ [] → missing_target bundle ≡ None
-none_missing bundle empty = none_if (is_none bundle.primary.fragment) _ (none_asked bundle _ _ empty)
+none_missing : (bundle : BundleFacts) → bundle.security ≡ [] → missing_target bundle ≡ None
+none_missing bundle empty = none_if (is_none bundle.primary.fragment) _ (no_target bundle _ _ empty)
 
-security_keeps : (bundle : ReadBundle) → bundle.security ≡ [] → KeepsSecurity bundle
+security_keeps : (bundle : BundleFacts) → bundle.security ≡ [] → KeepsSecurity bundle
 unfolding confidential_primary security_targets security_twice security_flags security_context integrity_target confidential_target confidential_flags confidential_context shared_target
 security_keeps bundle empty =
     let bad : first_counted bundle if_bad_targets ≡ None = none_in _ bundle.security empty in
     record {
       primary = none_in _ bundle.security empty;
       targets = rw (bad, none_missing bundle empty) refl;
-      twice = none_asked bundle _ _ empty;
+      twice = no_target bundle _ _ empty;
       flags = none_in _ bundle.security empty;
       context = none_in _ bundle.security empty;
-      integrity = none_asked bundle _ _ empty;
-      confidential = none_asked bundle _ _ empty;
+      integrity = no_target bundle _ _ empty;
+      confidential = no_target bundle _ _ empty;
       lost = none_in _ bundle.security empty;
       cipher = none_in _ bundle.security empty;
-      shared = none_asked bundle _ _ empty;
+      shared = no_target bundle _ _ empty;
     }
 
 -- ---- the bundle
 
-no_long_head : (bundle : ReadBundle) → bundle.long_head ≡ None → KeepsData bundle
+no_long_head : (bundle : BundleFacts) → bundle.long_head ≡ None → KeepsData bundle
     → long_head bundle ≡ None
 unfolding long_head
 no_long_head bundle none kept = rw (none, kept.security_heads, kept.extension_heads) refl
 
-no_bad_name : (bundle : ReadBundle) → bundle.primary.bad_name ≡ None → KeepsData bundle
+no_bad_name : (bundle : BundleFacts) → bundle.primary.bad_name ≡ None → KeepsData bundle
     → dtn_name bundle ≡ None
 unfolding dtn_name
 no_bad_name bundle none kept = rw (none, kept.names) refl
@@ -291,7 +291,7 @@ none_left : {A : Type 0} (elements : List A) → (length elements == 0) ≡ true
 none_left [] none = refl
 none_left (element ∷ more) none = grind (arith, nat_tests)
 
-pub none_broken : (bundle : ReadBundle) → bundle.long_head ≡ None → is_plain bundle ≡ true
+pub none_broken : (bundle : BundleFacts) → bundle.long_head ≡ None → is_plain bundle ≡ true
     → broken_bundle_rules bundle ≡ []
 unfolding broken_bundle_rules
 none_broken bundle head plain =

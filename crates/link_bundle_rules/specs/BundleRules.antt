@@ -4,7 +4,7 @@ use Rattle.link_rules_shared.specs.declared.level.{Level.Level, Level.TheVariant
 use Rattle.link_bundle_rules.specs.Extensions.{age, previous_node, previous_node_id, expired, hop_count, hops, block_type, block_data, data_not_read}
 use Rattle.link_bundle_rules.specs.Flags.{bundle_flags, anonymous, record_reports, block_reports, block_flags}
 use Rattle.link_bundle_rules.specs.Fragments.{fragment, whole_fragment}
-use Rattle.link_bundle_rules.specs.ReadBundle.{ReadBundle}
+use Rattle.link_bundle_rules.specs.BundleFacts.{BundleFacts}
 use Rattle.link_bundle_rules.specs.Heads.{long_head}
 use Rattle.link_bundle_rules.specs.Endpoints.{dtn_name, source_node}
 use Rattle.link_bundle_rules.specs.Records.{administrative_record, record_type, report_times, report_empty, report_reason, report_source}
@@ -14,7 +14,7 @@ use Rattle.link_bundle_rules.specs.declared.rule.BundleRule.{BundleRule}
 use Rattle.link_bundle_rules.specs.declared.rule.BundleRule.TheVariants as rule
 
 -- the rules for a bundle, in order; `None` for one that it keeps
-abbrev pub judged_bundle_rules : ReadBundle → List (Option BundleRule)
+abbrev pub judged_bundle_rules : BundleFacts → List (Option BundleRule)
 judged_bundle_rules bundle =
     long_head bundle ∷ bundle_flags bundle ∷ primary_check bundle ∷ anonymous bundle
     ∷ record_reports bundle ∷ block_reports bundle ∷ block_flags bundle ∷ dtn_name bundle
@@ -28,7 +28,7 @@ judged_bundle_rules bundle =
     ∷ confidential_flags bundle ∷ confidential_context bundle ∷ shared_target bundle ∷ []
 
 -- the rules that a bundle breaks, in order
-unfoldable pub broken_bundle_rules : ReadBundle → List BundleRule
+unfoldable pub broken_bundle_rules : BundleFacts → List BundleRule
 broken_bundle_rules bundle = filter_map (λ judged. judged) (judged_bundle_rules bundle)
 
 -- the name under which `check` reports a rule

@@ -2,7 +2,7 @@
 use Rattle.std.specs.Prelude.{ℕ, Option, Some, None, option_map, if◌then◌else◌}
 use Rattle.std.specs.Option.{option_and_then, option_or}
 use Rattle.link_bundle_rules.specs.Hidden.{unless_hidden}
-use Rattle.link_bundle_rules.specs.ReadBundle.{ReadBundle, find_map}
+use Rattle.link_bundle_rules.specs.BundleFacts.{BundleFacts, find_map}
 use Rattle.link_bundle_rules.specs.declared.block.{BlockFacts.BlockFacts, DataFacts.DataFacts}
 use Rattle.link_bundle_rules.specs.declared.block.DataFacts.TheVariants as facts
 use Rattle.link_bundle_rules.specs.declared.rule.{BundleRule.BundleRule, Endpoint.Endpoint}
@@ -20,18 +20,19 @@ bad_name_in number (facts.StatusReport report) =
 bad_name_in number _ = None
 
 -- what `bad_name_in` finds in the data of a block, unless the data may be ciphertext
-abbrev pub bad_name_of : ReadBundle → BlockFacts → Option Endpoint
+abbrev pub bad_name_of : BundleFacts → BlockFacts → Option Endpoint
 bad_name_of bundle read =
     option_and_then (λ read. bad_name_in read.number read.data) (unless_hidden bundle read)
 
 -- dtn-name: an endpoint ID of scheme dtn that is a text is a dtn name (section 4.2.5.1.1). The
--- first one that is no dtn name counts. Those of the primary block come first, and then those in
--- the data of the blocks, in order. A status report is the payload, which is the last block.
-unfoldable pub dtn_name : ReadBundle → Option BundleRule
+-- first one that is no dtn name is reported. The endpoint IDs of the primary block come first, and
+-- then the ones in the data of the blocks, in order. A status report is the payload, which is the
+-- last block.
+unfoldable pub dtn_name : BundleFacts → Option BundleRule
 dtn_name bundle =
     option_map DtnName (option_or bundle.primary.bad_name (find_map (bad_name_of bundle) bundle.blocks))
 
 -- source-node: the source is a singleton (section 5.2), and so no dtn name whose demux begins with
 -- `~`
-unfoldable pub source_node : ReadBundle → Option BundleRule
+unfoldable pub source_node : BundleFacts → Option BundleRule
 source_node bundle = if bundle.primary.has_group_source then Some SourceNode else None

@@ -4,8 +4,8 @@ use Rattle.std.specs.Option.{option_and_then}
 use Rattle.link_rules_shared.specs.declared.level.Level.TheVariants.{Must}
 use Rattle.link_bundle_rules.specs.Fragments.{level_in}
 use Rattle.link_bundle_rules.specs.Hidden.{is_hidden_block, first_readable}
-use Rattle.link_bundle_rules.specs.ReadBundle as block
-use Rattle.link_bundle_rules.specs.ReadBundle.{ReadBundle, is_of_type, is_extension, is_security_block, count_of_type, find_map}
+use Rattle.link_bundle_rules.specs.BundleFacts as block
+use Rattle.link_bundle_rules.specs.BundleFacts.{BundleFacts, is_of_type, is_extension, is_security_block, count_of_type, find_map}
 use Rattle.link_bundle_rules.specs.declared.block.BlockFacts.{BlockFacts}
 use Rattle.link_bundle_rules.specs.declared.block.DataFacts.{DataFacts}
 use Rattle.link_bundle_rules.specs.declared.block.DataFacts.TheVariants.{PreviousNode, BundleAge, HopCount, Malformed, NotRead}
@@ -14,7 +14,7 @@ use Rattle.link_bundle_rules.specs.declared.rule.BundleRule.TheVariants as rule
 
 -- age: a bundle has at most one bundle age block, and has one if its creation time is 0 (section
 -- 4.4.2)
-unfoldable pub age : ReadBundle → Option BundleRule
+unfoldable pub age : BundleFacts → Option BundleRule
 age bundle =
     let blocks = count_of_type block.bundle_age bundle.blocks in
     if nat_lt 1 blocks then Some (rule.Age blocks Must)
@@ -23,27 +23,29 @@ age bundle =
     else None
 
 -- previous-node: a bundle has at most one previous node block (section 4.4.1)
-unfoldable pub previous_node : ReadBundle → Option BundleRule
+unfoldable pub previous_node : BundleFacts → Option BundleRule
 previous_node bundle =
     let blocks = count_of_type block.previous_node bundle.blocks in
     if nat_lt 1 blocks then Some (rule.PreviousNode blocks) else None
 
 -- ---- the previous node and the age
 
--- the rule that the node of a previous node block breaks; `None` for data of another kind
+-- the rule that a previous node block breaks if its node is forbidden as a node ID; `None` for data
+-- of another kind
 abbrev pub node_rule : (number : ℕ) → DataFacts → Option BundleRule
 node_rule number (PreviousNode node) = option_map (λ level. rule.PreviousNodeId number level) node.level
 node_rule number _ = None
 
--- the rule that a block breaks by a node that is forbidden; `None` for a block of another type
+-- the rule that a previous node block breaks if its node is forbidden as a node ID; `None` for a
+-- block of another type
 abbrev pub if_no_node_id : BlockFacts → Option BundleRule
 if_no_node_id read = node_rule read.number read.data
 
--- previous-node-id: the first previous node block has a node ID (section 4.4.1): the endpoint ID of
--- a singleton (section 4.2.5.2), and so neither dtn:none nor a dtn name whose demux begins with `~`
--- (must). Another demux that is not empty, or a service number other than 0, names no node
--- (should).
-unfoldable pub previous_node_id : ReadBundle → Option BundleRule
+-- previous-node-id: the first previous node block contains a node ID (section 4.4.1). This is the
+-- endpoint ID of a singleton (section 4.2.5.2). So it is neither dtn:none nor a dtn name whose
+-- demux begins with `~` (must). Another demux that is not empty, or a service number other than 0,
+-- names no node (should).
+unfoldable pub previous_node_id : BundleFacts → Option BundleRule
 previous_node_id bundle = option_and_then if_no_node_id (first_readable block.previous_node bundle)
 
 -- the rule that an age above the lifetime breaks; `None` for data of another kind
@@ -58,7 +60,7 @@ if_expired lifetime read = age_rule lifetime read.data
 
 -- expired: the age of the first bundle age block does not exceed the lifetime (sections 4.3.1 and
 -- 5.5)
-unfoldable pub expired : ReadBundle → Option BundleRule
+unfoldable pub expired : BundleFacts → Option BundleRule
 expired bundle =
     option_and_then (if_expired bundle.primary.lifetime) (first_readable block.bundle_age bundle)
 
@@ -69,12 +71,14 @@ abbrev pub hops_in : DataFacts → Option Hops
 hops_in (HopCount limit count) = Some (record { limit = limit; count = count })
 hops_in _ = None
 
--- what a hop count block says; `None` for a block of another type, or with malformed data
+-- what a hop count block says; `None` for a block of another type, or if the data is malformed or
+-- not read
 abbrev pub hops_of : BlockFacts → Option Hops
 hops_of read = hops_in read.data
 
--- what the first hop count block says, unless its data is malformed or may be ciphertext
-unfoldable pub first_hops : ReadBundle → Option Hops
+-- what the first hop count block says, unless its data is malformed, is not read, or may be
+-- ciphertext
+unfoldable pub first_hops : BundleFacts → Option Hops
 first_hops bundle = option_and_then hops_of (first_readable block.hop_count bundle)
 
 -- whether there is a hop limit, and it is not from 1 to 255
@@ -84,7 +88,7 @@ has_bad_limit (Some hops) = (hops.limit == 0) || nat_lt 255 hops.limit
 
 -- hop-count: a bundle has at most one hop count block, and the first one has a hop limit from 1 to
 -- 255 (section 4.4.3)
-unfoldable pub hop_count : ReadBundle → Option BundleRule
+unfoldable pub hop_count : BundleFacts → Option BundleRule
 hop_count bundle =
     let blocks = count_of_type block.hop_count bundle.blocks in
     let first = first_hops bundle in
@@ -98,7 +102,7 @@ if_exceeded hops =
     if nat_lt hops.limit hops.count then Some (rule.Hops hops.limit hops.count) else None
 
 -- hops: the hop count of the first hop count block is within its hop limit (section 4.4.3)
-unfoldable pub hops : ReadBundle → Option BundleRule
+unfoldable pub hops : BundleFacts → Option BundleRule
 hops bundle = option_and_then if_exceeded (first_hops bundle)
 
 -- ---- block types
@@ -115,16 +119,17 @@ abbrev pub if_reserved : BlockFacts → Option BundleRule
 if_reserved read =
     if is_reserved read.block_type then Some (rule.BlockType read.number read.block_type) else None
 
--- block-type: a block has no type that is reserved (sections 4.3.2 and 9.1). The first block that
--- has one counts.
-unfoldable pub block_type : ReadBundle → Option BundleRule
+-- block-type: a block has no type that is reserved (sections 4.3.2 and 9.1). The first block with
+-- a reserved type is reported.
+unfoldable pub block_type : BundleFacts → Option BundleRule
 block_type bundle = find_map if_reserved bundle.blocks
 
 -- ---- data that is malformed or not read, if it cannot be ciphertext
 
--- whether a block is an extension block or a security block, whose data is read
-abbrev pub has_read_data : BlockFacts → Bool
-has_read_data read = is_extension read || is_security_block read
+-- whether a block is an extension block or a security block; this toolkit reads the data of such
+-- blocks
+abbrev pub has_readable_type : BlockFacts → Bool
+has_readable_type read = is_extension read || is_security_block read
 
 -- the rule that malformed data breaks; data that exceeds a limit of this toolkit does not break it
 abbrev pub malformed_rule : (number : ℕ) → DataFacts → Option BundleRule
@@ -132,17 +137,17 @@ malformed_rule number (Malformed byte) = Some (rule.BlockData number byte)
 malformed_rule number _ = None
 
 -- the rule that an extension block or a security block breaks by malformed data, if the data cannot
--- be ciphertext
-abbrev pub if_malformed_extension : ReadBundle → BlockFacts → Option BundleRule
+-- be ciphertext; a block of another type does not break it
+abbrev pub if_malformed_extension : BundleFacts → BlockFacts → Option BundleRule
 if_malformed_extension bundle read =
-    if has_read_data read && not (is_hidden_block bundle read.block_type read.number)
+    if has_readable_type read && not (is_hidden_block bundle read.block_type read.number)
     then malformed_rule read.number read.data
     else None
 
 -- block-data: the data of previous node, bundle age, hop count and security blocks is well formed
 -- (sections 4.4.1, 4.4.2 and 4.4.3, RFC 9172 section 3.6), as far as it is read. The first block
--- with malformed data counts.
-unfoldable pub block_data : ReadBundle → Option BundleRule
+-- with malformed data is reported.
+unfoldable pub block_data : BundleFacts → Option BundleRule
 block_data bundle = find_map (if_malformed_extension bundle) bundle.blocks
 
 -- the rule that data breaks if it exceeds a limit of this toolkit
@@ -152,15 +157,15 @@ unread_rule number _ = None
 
 -- the rule that a block breaks by data that exceeds a limit of this toolkit, if the data cannot be
 -- ciphertext; the payload can break it too, as an administrative record
-abbrev pub if_unread : ReadBundle → BlockFacts → Option BundleRule
+abbrev pub if_unread : BundleFacts → BlockFacts → Option BundleRule
 if_unread bundle read =
-    if (has_read_data read || is_of_type block.payload read)
+    if (has_readable_type read || is_of_type block.payload read)
     && not (is_hidden_block bundle read.block_type read.number)
     then unread_rule read.number read.data
     else None
 
 -- data-not-read: the data of extension and security blocks, and an administrative record, exceed no
 -- limit of this toolkit. RFC 9171 permits data that does (section 4.1). The first block with such
--- data counts.
-unfoldable pub data_not_read : ReadBundle → Option BundleRule
+-- data is reported.
+unfoldable pub data_not_read : BundleFacts → Option BundleRule
 data_not_read bundle = find_map (if_unread bundle) bundle.blocks

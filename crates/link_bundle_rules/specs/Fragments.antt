@@ -4,24 +4,25 @@ use Rattle.std.specs.Option.{option_and_then}
 use Rattle.link_rules_shared.specs.declared.level.{Level.Level, Level.TheVariants.{Must, Should}}
 use Rattle.link_bundle_rules.specs.Flags.{no_fragments, is_set}
 use Rattle.link_bundle_rules.specs.Hidden.{is_hidden}
-use Rattle.link_bundle_rules.specs.ReadBundle.{ReadBundle, is_later}
+use Rattle.link_bundle_rules.specs.BundleFacts.{BundleFacts, is_later}
 use Rattle.link_bundle_rules.specs.declared.rule.BundleRule.{BundleRule}
 use Rattle.link_bundle_rules.specs.declared.rule.BundleRule.TheVariants.{Fragment, WholeFragment}
 
 -- The level of a rule that asks for a block or a check: `Should` in a later fragment, and else
 -- `Must`. The node that fragments a bundle copies the blocks into the first fragment, and into the
 -- others only if a flag asks for it (section 5.8).
-abbrev pub level_in : ReadBundle → Level
+abbrev pub level_in : BundleFacts → Level
 level_in bundle = if is_later bundle.primary.fragment then Should else Must
 
 -- whether the payload may be ciphertext, and so have another length than its plaintext; its block
 -- has number 1 (section 4.1)
-abbrev pub has_hidden_payload : ReadBundle → Bool
+abbrev pub has_hidden_payload : BundleFacts → Bool
 has_hidden_payload bundle = is_hidden bundle 1
 
 -- The rule that a fragment breaks if it must not be one, or if its payload is empty or ends after
--- the total length. `part` is the offset of the fragment and the total length.
-abbrev pub if_no_part : ReadBundle → (part : ℕ × ℕ) → Option BundleRule
+-- the total length. The end of a payload that may be ciphertext is not judged. `part` is the offset
+-- of the fragment and the total length.
+abbrev pub if_no_part : BundleFacts → (part : ℕ × ℕ) → Option BundleRule
 if_no_part bundle (offset, total) =
     let size = bundle.payload_length in
     if is_set no_fragments bundle.primary.flags
@@ -31,17 +32,18 @@ if_no_part bundle (offset, total) =
 
 -- fragment: the flags of a fragment permit fragments, and its payload is some bytes of the original
 -- one (sections 3.1, 4.3.1 and 5.8)
-unfoldable pub fragment : ReadBundle → Option BundleRule
+unfoldable pub fragment : BundleFacts → Option BundleRule
 fragment bundle = option_and_then (if_no_part bundle) bundle.primary.fragment
 
--- the rule that a fragment breaks if its payload is all of the original one
-abbrev pub if_all : ReadBundle → (part : ℕ × ℕ) → Option BundleRule
+-- the rule that a fragment breaks if its payload is all of the original one; a payload that may be
+-- ciphertext is not judged
+abbrev pub if_all : BundleFacts → (part : ℕ × ℕ) → Option BundleRule
 if_all bundle (offset, total) =
     if (offset == 0) && ((bundle.payload_length == total) && not (has_hidden_payload bundle))
     then Some (WholeFragment total)
     else None
 
--- whole-fragment: the payload of a fragment is not all of the original one, unless a node has
--- reassembled it (sections 5.8 and 5.9)
-unfoldable pub whole_fragment : ReadBundle → Option BundleRule
+-- whole-fragment: the payload of a fragment is not all of the original one (sections 5.8 and 5.9).
+-- This is only a `should`: a node may have reassembled the payload in the first fragment.
+unfoldable pub whole_fragment : BundleFacts → Option BundleRule
 whole_fragment bundle = option_and_then (if_all bundle) bundle.primary.fragment

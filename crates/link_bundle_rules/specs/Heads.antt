@@ -3,7 +3,7 @@ use Rattle.std.specs.Prelude.{ℕ, Bool, min, Option, Some, None, option_map, if
 use Rattle.std.specs.Option.{option_and_then, option_or}
 use Rattle.link_rules_shared.specs.declared.level.{Level.Level, Level.TheVariants.{Must, Should}}
 use Rattle.link_bundle_rules.specs.Hidden.{unless_hidden}
-use Rattle.link_bundle_rules.specs.ReadBundle.{ReadBundle, is_extension, is_security_block, find_map}
+use Rattle.link_bundle_rules.specs.BundleFacts.{BundleFacts, is_extension, is_security_block, find_map}
 use Rattle.link_bundle_rules.specs.declared.block.BlockFacts.{BlockFacts}
 use Rattle.link_bundle_rules.specs.declared.rule.BundleRule.{BundleRule}
 use Rattle.link_bundle_rules.specs.declared.rule.BundleRule.TheVariants.{LongHead}
@@ -16,11 +16,11 @@ least (Some byte) (Some other) = Some (min byte other)
 
 -- the first long head in the data of a block, unless the data may be ciphertext; malformed data has
 -- none
-abbrev pub readable_head : ReadBundle → BlockFacts → Option ℕ
+abbrev pub readable_head : BundleFacts → BlockFacts → Option ℕ
 readable_head bundle read = option_and_then (λ read. read.long_head) (unless_hidden bundle read)
 
 -- the first long head in the data of the blocks that pass a test; they are in the order of offsets
-abbrev pub data_head : (BlockFacts → Bool) → ReadBundle → Option ℕ
+abbrev pub data_head : (BlockFacts → Bool) → BundleFacts → Option ℕ
 data_head test bundle =
     find_map (λ read. if test read then readable_head bundle read else None) bundle.blocks
 
@@ -28,11 +28,12 @@ data_head test bundle =
 abbrev pub of_level : Level → Option ℕ → Option BundleRule
 of_level level byte = option_map (λ byte. LongHead byte level) byte
 
--- long-head: each head of the bundle outside the data of blocks is the shortest for its number (RFC
--- 9171 section 4.1). So is each head in the data of security blocks, as far as it is read (RFC 9172
--- section 3.6), and in that of previous node, bundle age and hop count blocks (should). The first
--- that is longer counts. The head of the bundle's own array does not.
-unfoldable pub long_head : ReadBundle → Option BundleRule
+-- long-head: each head is the shortest for its number. This is a `must` outside the data of blocks
+-- (RFC 9171 section 4.1), and in the data of security blocks, as far as it is read (RFC 9172
+-- section 3.6). It is a `should` in the data of previous node, bundle age and hop count blocks. The
+-- head of the bundle's own array is not judged. The first longer head is reported, and a `must`
+-- goes before a `should`.
+unfoldable pub long_head : BundleFacts → Option BundleRule
 long_head bundle =
     option_or (of_level Must (least bundle.long_head (data_head is_security_block bundle)))
     (of_level Should (data_head is_extension bundle))

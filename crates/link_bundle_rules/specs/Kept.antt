@@ -5,8 +5,8 @@ use Rattle.std.specs.List.{list_all}
 use Rattle.link_rules_shared.specs.Flags.{has_other_flags}
 use Rattle.link_bundle_rules.specs.Extensions.{if_reserved}
 use Rattle.link_bundle_rules.specs.Flags.{bundle_flags_defined, record_flag, is_set, requests_reports, if_reporting, if_other_block_flags}
-use Rattle.link_bundle_rules.specs.ReadBundle as block
-use Rattle.link_bundle_rules.specs.ReadBundle.{ReadBundle, count_of_type}
+use Rattle.link_bundle_rules.specs.BundleFacts as block
+use Rattle.link_bundle_rules.specs.BundleFacts.{BundleFacts, count_of_type}
 use Rattle.link_bundle_rules.specs.declared.block.{BlockFacts.BlockFacts, Counts.Counts, DataFacts.DataFacts}
 use Rattle.link_bundle_rules.specs.declared.block.DataFacts.TheVariants.{Nothing, PreviousNode, BundleAge, HopCount}
 use Rattle.link_bundle_rules.specs.declared.primary.PrimaryFacts.{PrimaryFacts}
@@ -28,7 +28,7 @@ is_plain_block lifetime read =
     && (is_none (if_reserved read)
     && (is_none read.long_head && is_plain_data lifetime read.data)))
 
--- whether this primary block can break no rule, whatever the other blocks are
+-- whether this primary block can break no rule of primary blocks, whatever the other blocks are
 abbrev pub is_plain_primary : PrimaryFacts → Bool
 is_plain_primary primary =
     primary.has_check
@@ -39,7 +39,7 @@ is_plain_primary primary =
     && (not (has_other_flags bundle_flags_defined primary.flags)
     && not (is_set record_flag primary.flags && requests_reports primary.flags))))))
 
--- how many blocks there are of each type of which a bundle has at most one
+-- how many previous node, bundle age and hop count blocks there are
 abbrev pub counts_of : List BlockFacts → Counts
 counts_of blocks = record {
   previous_nodes = count_of_type block.previous_node blocks;
@@ -47,17 +47,18 @@ counts_of blocks = record {
   hop_counts = count_of_type block.hop_count blocks;
 }
 
--- Whether no rule is broken by how many previous node, hop count and bundle age blocks there are:
--- at most one of each. If the creation time is 0, there has to be a bundle age block.
-abbrev pub has_plain_counts : ReadBundle → Bool
+-- Whether the numbers of previous node, hop count and bundle age blocks break no rule. They break
+-- none if there is at most one of each, and a bundle age block if the creation time is 0.
+abbrev pub has_plain_counts : BundleFacts → Bool
 has_plain_counts bundle =
     let ages = count_of_type block.bundle_age bundle.blocks in
     nat_le (count_of_type block.previous_node bundle.blocks) 1
     && (nat_le (count_of_type block.hop_count bundle.blocks) 1
     && ((ages == 1) || ((ages == 0) && not bundle.primary.has_zero_time)))
 
--- whether only the rule of long heads outside the data of blocks can be broken
-abbrev pub is_plain : ReadBundle → Bool
+-- Whether the bundle is known to break no rule other than long-head. It can break this rule only by
+-- a head outside the data of blocks.
+abbrev pub is_plain : BundleFacts → Bool
 is_plain bundle =
     is_plain_primary bundle.primary
     && (list_all (is_plain_block bundle.primary.lifetime) bundle.blocks

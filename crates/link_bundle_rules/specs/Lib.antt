@@ -1,5 +1,5 @@
 pub mod Names
-pub mod ReadBundle
+pub mod BundleFacts
 pub mod Flags
 pub mod Hidden
 pub mod Fragments

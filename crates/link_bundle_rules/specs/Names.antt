@@ -9,7 +9,8 @@ use Rattle.link_bundle_blocks.specs.Blocks.{Primary}
 use Rattle.link_bundle_rules.specs.declared.rule.Endpoint.{Endpoint}
 use Rattle.link_bundle_rules.specs.declared.rule.Endpoint.TheVariants.{Destination, Source, ReportTo}
 
--- whether an endpoint ID is a text of scheme dtn and no dtn name; the number 0 is no text
+-- Whether an endpoint ID is of scheme dtn, and its text is not a dtn name. The null endpoint is the
+-- number 0, so it has no text.
 abbrev pub has_bad_name : Eid → Bool
 has_bad_name (eid.Dtn name) = not (is_dtn_name name.items)
 has_bad_name _ = false
@@ -26,7 +27,8 @@ bad_name primary =
 abbrev pub dtn_level : (name : List ℕ) → Option Level
 dtn_level name = if is_dtn_name name then demux_level (demux_of name) else None
 
--- whether it is a dtn name with a demux that begins with `~`: no singleton (section 4.2.5.1.1)
+-- whether an endpoint ID is a dtn name whose demux begins with `~`, and so the endpoint is no
+-- singleton (section 4.2.5.1.1)
 abbrev pub is_group : Eid → Bool
 is_group (eid.Dtn name) =
     starts_with nat_eq (demux_of name.items) (codes "~") && is_dtn_name name.items

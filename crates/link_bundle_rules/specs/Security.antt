@@ -5,7 +5,7 @@ use Rattle.link_rules_shared.specs.Flags.{has_other_flags}
 use Rattle.link_bundle_rules.specs.Flags.{is_set}
 use Rattle.link_bundle_rules.specs.Fragments.{level_in}
 use Rattle.link_bundle_rules.specs.Hidden.{is_hidden}
-use Rattle.link_bundle_rules.specs.ReadBundle.{ReadBundle, block_integrity, block_confidentiality, find_map}
+use Rattle.link_bundle_rules.specs.BundleFacts.{BundleFacts, block_integrity, block_confidentiality, find_map}
 use Rattle.link_bundle_rules.specs.Targets.{is_confidentiality, has_target, first_counted}
 use Rattle.link_bundle_rules.specs.declared.rule.BundleRule.{BundleRule}
 use Rattle.link_bundle_rules.specs.declared.rule.BundleRule.TheVariants.{PrimaryCheck, ConfidentialPrimary, SecurityFlags, SecurityContext, ConfidentialFlags, ConfidentialContext}
@@ -13,14 +13,14 @@ use Rattle.link_bundle_rules.specs.declared.security.SecurityFacts.{SecurityFact
 
 -- Whether a block integrity block may have the primary block as a target. If its data is malformed
 -- or hidden, its targets are not known.
-abbrev pub may_protect_primary : ReadBundle → SecurityFacts → Bool
+abbrev pub may_protect_primary : BundleFacts → SecurityFacts → Bool
 may_protect_primary bundle block =
     (block.block_type == block_integrity)
     && (block.targets_primary || (block.is_malformed || is_hidden bundle block.number))
 
 -- primary-check: the primary block has a check, or a block integrity block has it as a target (RFC
 -- 9171 section 4.3.1)
-unfoldable pub primary_check : ReadBundle → Option BundleRule
+unfoldable pub primary_check : BundleFacts → Option BundleRule
 primary_check bundle =
     if bundle.primary.has_check || list_any (may_protect_primary bundle) bundle.security
     then None
@@ -34,8 +34,8 @@ if_confidential_primary block =
     else None
 
 -- confidential-primary: no block confidentiality block has the primary block as a target (RFC 9172
--- section 3.8). The first block that does counts.
-unfoldable pub confidential_primary : ReadBundle → Option BundleRule
+-- section 3.8). The first block with this target is reported.
+unfoldable pub confidential_primary : BundleFacts → Option BundleRule
 confidential_primary bundle = find_map if_confidential_primary bundle.security
 
 -- ---- flags and contexts of security blocks that count
@@ -53,7 +53,7 @@ if_other_context_flags block =
     else None
 
 -- security-flags: a security context has no flag but the one that is defined (RFC 9172 section 3.6)
-unfoldable pub security_flags : ReadBundle → Option BundleRule
+unfoldable pub security_flags : BundleFacts → Option BundleRule
 security_flags bundle = first_counted bundle if_other_context_flags
 
 -- the rule that a security block breaks by a context whose ID is reserved: 0 or negative
@@ -65,25 +65,25 @@ if_reserved_context block =
 
 -- security-context: the ID of a security context is above 0, since the others are reserved (RFC
 -- 9172 sections 3.6 and 11.3)
-unfoldable pub security_context : ReadBundle → Option BundleRule
+unfoldable pub security_context : BundleFacts → Option BundleRule
 security_context bundle = first_counted bundle if_reserved_context
 
--- the block is copied into every fragment (RFC 9171 section 4.2.4)
+-- the flag that asks for a copy of the block in every fragment (RFC 9171 section 4.2.4)
 abbrev pub copied : ℕ
 copied = 0x01
 
--- the block is discarded if it cannot be processed
+-- the flag that discards the block if it cannot be processed
 abbrev pub discarded : ℕ
 discarded = 0x10
 
--- whether the flags of a block permit to discard it, or to leave it out of a fragment although it
--- encrypts the payload, which has number 1
+-- Whether the flags of a security block permit its loss. A node may discard the block, or may leave
+-- it out of a fragment although the payload is one of its targets. The payload has number 1.
 abbrev pub may_be_lost : SecurityFacts → Bool
 may_be_lost block =
     is_set discarded block.flags
     || (has_target 1 block && not (is_set copied block.flags))
 
--- the rule that a block confidentiality block breaks by its flags
+-- the rule that a block confidentiality block breaks if its flags permit its loss
 abbrev pub if_may_be_lost : SecurityFacts → Option BundleRule
 if_may_be_lost block =
     if is_confidentiality block && may_be_lost block
@@ -92,14 +92,15 @@ if_may_be_lost block =
 
 -- confidential-flags: a block confidentiality block is not discarded if it cannot be processed, and
 -- is copied into every fragment if it has the payload as a target (RFC 9172 section 3.8)
-unfoldable pub confidential_flags : ReadBundle → Option BundleRule
+unfoldable pub confidential_flags : BundleFacts → Option BundleRule
 confidential_flags bundle = first_counted bundle if_may_be_lost
 
 -- the context BIB-HMAC-SHA2 (RFC 9173 section 5.1), which has no cipher (section 3.1)
 abbrev pub hmac_sha2 : ℕ
 hmac_sha2 = 1
 
--- the rule that a block confidentiality block breaks by a context without a cipher
+-- the rule that a block confidentiality block breaks by the context BIB-HMAC-SHA2, which has no
+-- cipher
 abbrev pub if_no_cipher : SecurityFacts → Option BundleRule
 if_no_cipher block =
     if is_confidentiality block
@@ -109,5 +110,5 @@ if_no_cipher block =
 
 -- confidential-context: the context of a block confidentiality block has a cipher (RFC 9172 section
 -- 3.8, RFC 9173 sections 3.1 and 5.1)
-unfoldable pub confidential_context : ReadBundle → Option BundleRule
+unfoldable pub confidential_context : BundleFacts → Option BundleRule
 confidential_context bundle = first_counted bundle if_no_cipher

@@ -3,7 +3,7 @@
 ghost use Rattle.std.specs.Prelude.{◌≡◌, ◌+◌, ◌^◌, ◌<◌, IfSome, option_map};
 ghost use Rattle.std.specs.List.{find};
 ghost use Rattle.link_bundle_data.specs.DataView.{viewed_data, viewed_result};
-ghost use Rattle.link_bundle_rules.specs.ReadBundle.{block_facts, data_facts, said_facts, fault_facts, node_facts, report_facts, long_head_at, malformed_at, is_of_type, is_extension, is_security, is_security_block};
+ghost use Rattle.link_bundle_rules.specs.BundleFacts.{block_facts, data_facts, said_facts, fault_facts, node_facts, report_facts, long_head_at, malformed_at, is_of_type, is_extension, is_security, is_security_block};
 ghost use Rattle.link_bundle_types.specs.EidView.{viewed_eid};
 
 use crate::names::{has_bad_name, node_level};
@@ -35,8 +35,8 @@ pub struct ReadBlockView<'a> {
     /// It is `None` if data of this type is not read. The payload is read if it is an
     /// administrative record and the bundle is no fragment.
     pub found: Option<Result<DataView<'a>, DataFault>>,
-    /// The offset in the data of the first head that is longer than its number needs, of the heads
-    /// that are read.
+    /// The offset in the data of the first head that is longer than its number needs. Heads that
+    /// are not read do not count.
     pub long_head: Option<u64>,
 }
 
@@ -125,7 +125,8 @@ pub(crate) struct BlockFacts {
     pub(crate) long_head: Option<u64>,
 }
 
-/// Why the data of a block is malformed. The data begins at offset `data_start` of the bundle.
+/// What the rules need of a fault in the data of a block. The data is malformed, or it exceeds a
+/// limit of this toolkit. The data begins at offset `data_start` of the bundle.
 fn fault_facts(data_start: u64, fault: DataFault) -> DataFacts
     ensures { data_start + fault.offset < 2 ^ 64 → result ≡ fault_facts data_start fault }
 {
@@ -154,7 +155,10 @@ fn said_facts(view: &DataView<'_>) -> DataFacts
     }
 }
 
-/// What the rules need of the data of a block.
+/// What the rules need of the data of a block. It is `Nothing` for data of a type that is not read.
+///
+/// The premise of the contract is about data with a fault: this fault lies at an offset of the
+/// bundle that is below 2^64.
 #[inline(always)]
 fn data_facts(read: &ReadBlockView<'_>) -> DataFacts
     ensures { IfSome (malformed_at read.now.block.now (option_map viewed_result read.now.found))
@@ -168,7 +172,8 @@ fn data_facts(read: &ReadBlockView<'_>) -> DataFacts
     }
 }
 
-/// The offset in the bundle, if it is below 2^64, of the first long head in the data of a block.
+/// The offset in the bundle of the first long head in the data of a block. The premise of the
+/// contract is that this offset is below 2^64.
 #[inline(always)]
 fn long_head_at(read: &ReadBlockView<'_>) -> Option<u64>
     ensures { IfSome (long_head_at read.now.block.now read.now.long_head) (λ byte. byte < 2 ^ 64)

@@ -10,13 +10,14 @@ impl BundleHistory {
     ghost use Rattle.link_bundle_rules.specs.History.{bundle_of};
     ghost use Rattle.link_bundle_rules.specs.Security.{may_protect_primary, primary_check, confidential_primary, security_flags, security_context, confidential_flags, confidential_context};
 
-    /// The rule `primary-check`, if it is broken.
+    /// The primary block has a check, or is a target of a block integrity block (RFC 9171 section
+    /// 4.3.1). Returns the rule `primary-check` if it has no check, and cannot be such a target.
     #[tactic(auto, unfolding(crate::specs::Security::primary_check))]
     pub(crate) fn primary_check(&self) -> Option<BundleRule>
         ensures { (long_head : Option ℕ) (payload_length : ℕ)
             → result ≡ primary_check (bundle_of self.now long_head payload_length) }
     {
-        if self.primary.has_check || self.is_protected() {
+        if self.primary.has_check || self.may_have_protected_primary() {
             return None;
         }
         Some(BundleRule::PrimaryCheck {
@@ -24,8 +25,8 @@ impl BundleHistory {
         })
     }
 
-    /// Whether a block integrity block may have the primary block as a target.
-    fn is_protected(&self) -> bool
+    /// Whether a block integrity block has, or may have, the primary block as a target.
+    fn may_have_protected_primary(&self) -> bool
         ensures { result ≡ list_any (may_protect_primary (bundle_of self.now None 0))
             self.now.security.items }
     {
@@ -33,7 +34,8 @@ impl BundleHistory {
         security.iter().any(|block| block.may_protect_primary(self))
     }
 
-    /// The rule `confidential-primary`, if a block confidentiality block breaks it.
+    /// The primary block is no target of a block confidentiality block (RFC 9172 section 3.8).
+    /// Returns the rule `confidential-primary` if it is one.
     #[tactic(auto, unfolding(crate::specs::Security::confidential_primary))]
     pub(crate) fn confidential_primary(&self) -> Option<BundleRule>
         ensures { (long_head : Option ℕ) (payload_length : ℕ)
@@ -45,7 +47,8 @@ impl BundleHistory {
         )
     }
 
-    /// The rule `security-flags`, if the flags of a security context break it.
+    /// Each flag of a security context is defined (RFC 9172 section 3.6). Returns the rule
+    /// `security-flags` if a context sets another flag.
     #[tactic(auto, unfolding(crate::specs::Security::security_flags))]
     pub(crate) fn security_flags(&self) -> Option<BundleRule>
         ensures { (long_head : Option ℕ) (payload_length : ℕ)
@@ -53,11 +56,12 @@ impl BundleHistory {
     {
         first_found(
             self.security.as_slice(),
-            |block| self.if_counted(block, block.if_other_context_flags()),
+            |block| self.broken_if_counted(block, block.if_other_context_flags()),
         )
     }
 
-    /// The rule `security-context`, if the ID of a security context breaks it.
+    /// The ID of a security context is above 0, and so not reserved (RFC 9172 sections 3.6 and
+    /// 11.3). Returns the rule `security-context` if an ID is reserved.
     #[tactic(auto, unfolding(crate::specs::Security::security_context))]
     pub(crate) fn security_context(&self) -> Option<BundleRule>
         ensures { (long_head : Option ℕ) (payload_length : ℕ)
@@ -65,11 +69,13 @@ impl BundleHistory {
     {
         first_found(
             self.security.as_slice(),
-            |block| self.if_counted(block, block.if_reserved_context()),
+            |block| self.broken_if_counted(block, block.if_reserved_context()),
         )
     }
 
-    /// The rule `confidential-flags`, if a block confidentiality block breaks it.
+    /// A block confidentiality block is not discarded if it cannot be processed. It is copied into
+    /// every fragment if the payload is one of its targets (RFC 9172 section 3.8). Returns the rule
+    /// `confidential-flags` if the flags of such a block permit its loss.
     #[tactic(auto, unfolding(crate::specs::Security::confidential_flags))]
     pub(crate) fn confidential_flags(&self) -> Option<BundleRule>
         ensures { (long_head : Option ℕ) (payload_length : ℕ)
@@ -77,11 +83,12 @@ impl BundleHistory {
     {
         first_found(
             self.security.as_slice(),
-            |block| self.if_counted(block, block.if_may_be_lost()),
+            |block| self.broken_if_counted(block, block.if_may_be_lost()),
         )
     }
 
-    /// The rule `confidential-context`, if a block confidentiality block breaks it.
+    /// The context of a block confidentiality block has a cipher (RFC 9172 section 3.8, RFC 9173
+    /// sections 3.1 and 5.1). Returns the rule `confidential-context` if a context has none.
     #[tactic(auto, unfolding(crate::specs::Security::confidential_context))]
     pub(crate) fn confidential_context(&self) -> Option<BundleRule>
         ensures { (long_head : Option ℕ) (payload_length : ℕ)
@@ -89,7 +96,7 @@ impl BundleHistory {
     {
         first_found(
             self.security.as_slice(),
-            |block| self.if_counted(block, block.if_no_cipher()),
+            |block| self.broken_if_counted(block, block.if_no_cipher()),
         )
     }
 }

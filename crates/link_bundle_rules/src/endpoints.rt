@@ -14,6 +14,7 @@ fn bad_name_in(number: u64, found: DataFacts) -> Option<Endpoint>
 {
     match found {
         DataFacts::PreviousNode(node) if node.has_bad_name => Some(Endpoint::PreviousNode(number)),
+        // The security source is a text and no dtn name.
         DataFacts::Security(true) => Some(Endpoint::SecuritySource(number)),
         DataFacts::StatusReport(report) if report.has_bad_source => Some(Endpoint::ReportSource),
         _ => None,
@@ -24,7 +25,7 @@ impl BundleHistory {
     ghost use Rattle.std.specs.Prelude.{◌≡◌, ℕ, Option, None};
     ghost use Rattle.link_bundle_rules.specs.Endpoints.{bad_name_of, dtn_name, source_node};
     ghost use Rattle.link_bundle_rules.specs.History.{bundle_of};
-    ghost use Rattle.link_bundle_rules.specs.ReadBundle.{find_map};
+    ghost use Rattle.link_bundle_rules.specs.BundleFacts.{find_map};
     ghost use Rattle.std.specs.Option.{option_or};
 
     /// What `bad_name_in` returns for a block, unless its data may be ciphertext.
@@ -35,7 +36,7 @@ impl BundleHistory {
         bad_name_in(read.number, read.data)
     }
 
-    /// The first endpoint ID of the bundle that is a text and no dtn name.
+    /// The first dtn endpoint ID of the bundle whose text is not a dtn name.
     fn first_bad_name(&self) -> Option<Endpoint>
         ensures { result ≡ option_or self.now.primary.bad_name
             (find_map (bad_name_of (bundle_of self.now None 0)) self.now.blocks.items) }

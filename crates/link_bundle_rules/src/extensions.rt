@@ -2,7 +2,7 @@
 
 ghost use Rattle.std.specs.Prelude.{◌≡◌, None};
 ghost use Rattle.link_bundle_rules.specs.History.{bundle_of};
-ghost use Rattle.link_bundle_rules.specs.Extensions.{hops_in, has_bad_limit, if_exceeded, if_no_node_id, if_expired, is_reserved, if_reserved, has_read_data, if_malformed_extension, if_unread};
+ghost use Rattle.link_bundle_rules.specs.Extensions.{hops_in, has_bad_limit, if_exceeded, if_no_node_id, if_expired, is_reserved, if_reserved, has_readable_type, if_malformed_extension, if_unread};
 ghost use Rattle.link_bundle_rules.specs.Hidden.{is_hidden_block};
 
 use crate::block::{
@@ -32,7 +32,8 @@ pub(crate) fn has_bad_limit(hops: &Option<Hops>) -> bool
 }
 
 impl Hops {
-    /// What the data of a block says, if it is that of a hop count block.
+    /// The hop limit and the hop count that the data of a block contains. `None` for data of
+    /// another kind.
     fn of(found: DataFacts) -> Option<Hops>
         ensures { result ≡ hops_in found }
     {
@@ -51,7 +52,8 @@ impl Hops {
     }
 }
 
-/// The rule that a block breaks by a node that is forbidden. `None` for a block of another type.
+/// The rule that a previous node block breaks if its node is forbidden as a node ID. `None` for a
+/// block of another type.
 fn if_no_node_id(block: &BlockFacts) -> Option<BundleRule>
     ensures { result ≡ if_no_node_id block.now }
 {
@@ -93,9 +95,10 @@ pub(crate) fn if_reserved(block: &BlockFacts) -> Option<BundleRule>
     })
 }
 
-/// Whether a block is an extension block or a security block, whose data is read.
-fn has_read_data(block: &BlockFacts) -> bool
-    ensures { result ≡ has_read_data block.now }
+/// Whether a block is an extension block or a security block. This toolkit reads the data of such
+/// blocks.
+fn has_readable_type(block: &BlockFacts) -> bool
+    ensures { result ≡ has_readable_type block.now }
 {
     is_extension(block) || is_security_block(block)
 }
@@ -108,8 +111,8 @@ fn is_hidden(history: &BundleHistory, block: &BlockFacts) -> bool
     history.is_hidden_block(block.block_type, block.number)
 }
 
-/// The rule that is broken by malformed data of an extension block or a security block, unless the
-/// data may be ciphertext.
+/// The rule that an extension block or a security block breaks by malformed data, unless the data
+/// may be ciphertext. A block of another type does not break it.
 pub(crate) fn if_malformed_extension(
     history: &BundleHistory,
     block: &BlockFacts,
@@ -117,7 +120,7 @@ pub(crate) fn if_malformed_extension(
     ensures { result ≡ if_malformed_extension (bundle_of history.now None 0) block.now }
 {
     match block.data {
-        DataFacts::Malformed(byte) if has_read_data(block) && !is_hidden(history, block) => {
+        DataFacts::Malformed(byte) if has_readable_type(block) && !is_hidden(history, block) => {
             Some(BundleRule::BlockData {
                 block: block.number,
                 byte,
@@ -127,12 +130,12 @@ pub(crate) fn if_malformed_extension(
     }
 }
 
-/// The rule that a block breaks by data that this toolkit does not read, if that cannot be
-/// ciphertext.
+/// The rule that a block breaks by data that exceeds a limit of this toolkit, unless the data may
+/// be ciphertext. The payload can break it too, as an administrative record.
 pub(crate) fn if_unread(history: &BundleHistory, block: &BlockFacts) -> Option<BundleRule>
     ensures { result ≡ if_unread (bundle_of history.now None 0) block.now }
 {
-    let is_judged = has_read_data(block) || is_of_type(PAYLOAD, block);
+    let is_judged = has_readable_type(block) || is_of_type(PAYLOAD, block);
     match block.data {
         DataFacts::NotRead(byte) if is_judged && !is_hidden(history, block) => {
             Some(BundleRule::DataNotRead {
@@ -151,7 +154,8 @@ impl BundleHistory {
     ghost use Rattle.link_bundle_rules.specs.History.{bundle_of};
     ghost use Rattle.link_bundle_rules.specs.Kept.{is_plain_block, counts_of};
 
-    /// The rule `age` of bundle age blocks, if it is broken.
+    /// The rule `age` of bundle age blocks, if it is broken. In a later fragment, a missing block
+    /// breaks it only as a `should`.
     #[tactic(auto, unfolding(crate::specs::Extensions::age))]
     pub(crate) fn age(&self, counts: Counts) -> Option<BundleRule>
         ensures { (long_head : Option ℕ) (payload_length : ℕ)
@@ -199,7 +203,8 @@ impl BundleHistory {
         if_expired(self.primary.lifetime, &self.first_readable(BUNDLE_AGE)?)
     }
 
-    /// What the first hop count block says, unless it is malformed or may be ciphertext.
+    /// What the first hop count block says, unless its data is malformed, is not read, or may be
+    /// ciphertext.
     #[tactic(auto, unfolding(crate::specs::Extensions::first_hops))]
     fn first_hops(&self) -> Option<Hops>
         ensures { (long_head : Option ℕ) (payload_length : ℕ)
@@ -210,8 +215,8 @@ impl BundleHistory {
 
     /// The rule `hop-count`, if it is broken.
     ///
-    /// `plain` is whether all blocks are plain. The hop limit of a plain block is good, so then
-    /// only the number of hop count blocks can break the rule.
+    /// `plain` is whether all blocks are plain. If so, only the number of hop count blocks can
+    /// break the rule, since the hop limit of a plain block is good.
     #[tactic(auto, unfolding(crate::specs::Extensions::hop_count))]
     pub(crate) fn hop_count(&self, plain: bool, counts: Counts) -> Option<BundleRule>
         ensures { (long_head : Option ℕ) (payload_length : ℕ)
@@ -231,8 +236,8 @@ impl BundleHistory {
 
     /// The rule that the first hop count is within its hop limit, if the rule is broken.
     ///
-    /// `plain` is whether all blocks are plain. Plain blocks do not break the rule, so then none is
-    /// looked at.
+    /// `plain` is whether all blocks are plain. If so, no block is looked at, since plain blocks do
+    /// not break the rule.
     #[tactic(auto, unfolding(crate::specs::Extensions::hops))]
     pub(crate) fn hops(&self, plain: bool) -> Option<BundleRule>
         ensures { (long_head : Option ℕ) (payload_length : ℕ)
@@ -256,8 +261,8 @@ impl BundleHistory {
 
     /// The rule `block-data`, if the data of a block breaks it.
     ///
-    /// `plain` is whether all blocks are plain. Plain blocks do not break the rule, so then none is
-    /// looked at.
+    /// `plain` is whether all blocks are plain. If so, no block is looked at, since plain blocks do
+    /// not break the rule.
     #[tactic(auto, unfolding(crate::specs::Extensions::block_data))]
     pub(crate) fn block_data(&self, plain: bool) -> Option<BundleRule>
         ensures { (long_head : Option ℕ) (payload_length : ℕ)
@@ -275,8 +280,8 @@ impl BundleHistory {
 
     /// The rule `data-not-read`, if the data of a block breaks it.
     ///
-    /// `plain` is whether all blocks are plain. Plain blocks do not break the rule, so then none is
-    /// looked at.
+    /// `plain` is whether all blocks are plain. If so, no block is looked at, since plain blocks do
+    /// not break the rule.
     #[tactic(auto, unfolding(crate::specs::Extensions::data_not_read))]
     pub(crate) fn data_not_read(&self, plain: bool) -> Option<BundleRule>
         ensures { (long_head : Option ℕ) (payload_length : ℕ)

@@ -35,8 +35,9 @@ impl BundleHistory {
         self.if_no_part(part, size)
     }
 
-    /// The rule that a fragment breaks if the bundle must not be fragmented, or if its payload of
-    /// `size` bytes is no part of the original payload.
+    /// The rule that a fragment breaks if the bundle must not be fragmented, or if the payload of
+    /// `size` bytes is empty or ends after the total length. The end of a payload that may be
+    /// ciphertext is not judged.
     ///
     /// `part` is the offset of the fragment and the total length of the original payload.
     fn if_no_part(&self, part: (u64, u64), size: u64) -> Option<BundleRule>
@@ -62,7 +63,8 @@ impl BundleHistory {
         self.if_all(part, size)
     }
 
-    /// The rule that a fragment breaks if its payload of `size` bytes is all of the original one.
+    /// The rule that a fragment breaks if its payload of `size` bytes is all of the original one. A
+    /// payload that may be ciphertext is not judged.
     ///
     /// `part` is the offset of the fragment and the total length of the original payload.
     fn if_all(&self, part: (u64, u64), size: u64) -> Option<BundleRule>

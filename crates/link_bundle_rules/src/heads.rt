@@ -32,7 +32,7 @@ impl BundleHistory {
     ghost use Rattle.std.specs.Prelude.{◌≡◌, ℕ, Option, None, if◌then◌else◌};
     ghost use Rattle.link_bundle_rules.specs.Heads.{readable_head, data_head, long_head};
     ghost use Rattle.link_bundle_rules.specs.History.{bundle_of};
-    ghost use Rattle.link_bundle_rules.specs.ReadBundle.{is_extension, is_security_block};
+    ghost use Rattle.link_bundle_rules.specs.BundleFacts.{is_extension, is_security_block};
 
     /// The first long head in the data of a block, unless the data may be ciphertext.
     fn readable_head(&self, block: &BlockFacts) -> Option<u64>
@@ -86,7 +86,9 @@ impl BundleHistory {
         )
     }
 
-    /// The rule `long-head`, if it is broken.
+    /// The rule `long-head`, if it is broken. It is a `must` for a long head outside the data of
+    /// blocks, or in the data of security blocks. Without such a head, it is a `should` for a long
+    /// head in the data of extension blocks.
     ///
     /// `byte` is the offset of the first long head outside the data of blocks. The result is the
     /// same for any length of the payload.

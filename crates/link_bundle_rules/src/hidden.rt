@@ -13,8 +13,8 @@ impl BundleHistory {
     ghost use Rattle.link_bundle_rules.specs.Fragments.{has_hidden_payload};
     ghost use Rattle.link_bundle_rules.specs.History.{bundle_of};
 
-    /// Whether the data of the block with this number may be ciphertext, if it is no block
-    /// confidentiality block.
+    /// Whether the data of the block with this number may be ciphertext. The block is of another
+    /// type than block confidentiality.
     pub(crate) fn is_hidden(&self, number: u64) -> bool
         ensures { result ≡ is_hidden (bundle_of self.now None 0) number }
     {

@@ -28,7 +28,7 @@ impl BundleHistory {
     ghost use Rattle.link_bundle_data.specs.DataView.{viewed_result};
     ghost use Rattle.link_bundle_blocks.specs.Blocks.{viewed_primary};
     ghost use Rattle.link_bundle_rules.specs.History.{bundle_of};
-    ghost use Rattle.link_bundle_rules.specs.ReadBundle.{begun, security_facts, with_block, malformed_at, long_head_at};
+    ghost use Rattle.link_bundle_rules.specs.BundleFacts.{begun, security_facts, with_block, malformed_at, long_head_at};
 
     /// A history for one bundle after another. [`BundleHistory::begin`] begins each.
     pub fn new() -> BundleHistory {

@@ -30,7 +30,7 @@ fn is_plain_data(lifetime: u64, found: DataFacts) -> bool
     }
 }
 
-/// Whether no rule of single blocks can be broken by this block.
+/// Whether this block can break no rule of single blocks.
 #[inline(always)]
 fn is_plain_block(lifetime: u64, block: &BlockFacts) -> bool
     ensures { result ≡ is_plain_block lifetime block.now }
@@ -42,7 +42,7 @@ fn is_plain_block(lifetime: u64, block: &BlockFacts) -> bool
         && is_plain_data(lifetime, block.data)
 }
 
-/// Whether no rule of the primary block can be broken by this one, whatever the other blocks are.
+/// Whether this primary block can break no rule of primary blocks, whatever the other blocks are.
 #[inline(always)]
 fn is_plain_primary(primary: &PrimaryFacts) -> bool
     ensures { result ≡ is_plain_primary primary.now }
@@ -79,7 +79,8 @@ impl BundleHistory {
         first_long_head.is_none() && self.is_plain()
     }
 
-    /// Whether only the rule of long heads outside the data of blocks can be broken.
+    /// Whether the bundle is known to break no rule other than `long-head`. It can break this rule
+    /// only by a head outside the data of blocks.
     #[inline(always)]
     fn is_plain(&self) -> bool
         ensures { (long_head : Option ℕ) (payload_length : ℕ) → result ≡ is_plain (bundle_of self.now long_head payload_length) }
@@ -103,7 +104,7 @@ impl BundleHistory {
             .all(|block| is_plain_block(lifetime, block))
     }
 
-    /// Whether no rule of the numbers of blocks is broken.
+    /// Whether the numbers of previous node, hop count and bundle age blocks break no rule.
     #[inline(always)]
     fn has_plain_counts(&self) -> bool
         ensures { result ≡ has_plain_counts (bundle_of self.now None 0) }

@@ -36,7 +36,8 @@ pub(crate) fn bad_name(primary: &PrimaryBlock<'_>) -> Option<Endpoint>
     None
 }
 
-/// Whether an endpoint ID is a dtn name with a demux that begins with `~`: no singleton.
+/// Whether an endpoint ID is a dtn name whose demux begins with `~`. Such an endpoint is no
+/// singleton.
 pub(crate) fn is_group(eid: &EidView<'_>) -> bool
     ensures { result ≡ is_group (viewed_eid eid.now) }
 {

@@ -2,7 +2,7 @@
 
 ghost use Rattle.std.specs.Prelude.{◌≡◌};
 ghost use Rattle.link_bundle_types.specs.EidView.{viewed_eid};
-ghost use Rattle.link_bundle_rules.specs.ReadBundle.{is_none_eid};
+ghost use Rattle.link_bundle_rules.specs.BundleFacts.{is_none_eid};
 
 use crate::flags::{RECORD, is_set};
 use crate::names::{bad_name, is_group};
@@ -54,7 +54,7 @@ impl PrimaryFacts {
     ghost use Rattle.std.specs.Prelude.{◌≡◌, if◌then◌else◌};
     ghost use Rattle.link_bundle_blocks.specs.Blocks.{viewed_primary};
     ghost use Rattle.link_bundle_rules.specs.Flags.{forbids_reports};
-    ghost use Rattle.link_bundle_rules.specs.ReadBundle.{is_later, primary_facts};
+    ghost use Rattle.link_bundle_rules.specs.BundleFacts.{is_later, primary_facts};
     ghost use Rattle.link_rules_shared.specs.declared.level.Level.TheVariants.{Must, Should};
 
     /// What the rules need of this primary block.
@@ -91,7 +91,8 @@ impl PrimaryFacts {
         }
     }
 
-    /// The level of a rule that asks for a block or a check.
+    /// The level of a rule that asks for a block or a check. A later fragment may lack blocks, so
+    /// its level is `Should`.
     pub(crate) fn level(&self) -> Level
         ensures { result ≡ (if is_later self.now.fragment then Should else Must) }
     {

@@ -25,7 +25,8 @@ impl BundleHistory {
     ghost use Rattle.link_bundle_rules.specs.History.{bundle_of};
     ghost use Rattle.link_bundle_rules.specs.Records.{record_of, administrative_record, record_type, report_of, report_times, report_empty, report_reason, report_source};
 
-    /// The payload block, unless its data may be ciphertext.
+    /// The payload block, unless its data may be ciphertext. In a fragment, or without an
+    /// administrative record, its data is `Nothing`.
     fn record_of(&self) -> Option<BlockFacts>
         ensures { (long_head : Option ℕ) (payload_length : ℕ)
             → result ≡ record_of (bundle_of self.now long_head payload_length) }

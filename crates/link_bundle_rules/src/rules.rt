@@ -2,7 +2,7 @@
 
 ghost use Rattle.std.specs.Prelude.{◌≡◌, Option};
 ghost use Rattle.std.specs.Fn.{FnReturnsAt};
-ghost use Rattle.link_bundle_rules.specs.ReadBundle.{find_map};
+ghost use Rattle.link_bundle_rules.specs.BundleFacts.{find_map};
 
 use crate::block::Counts;
 use crate::flags::{
@@ -20,13 +20,13 @@ const RULES: usize = 36;
 /// The rules that a bundle breaks, in order.
 pub type BrokenBundleRules = ArrayVec<BundleRule, RULES>;
 
-/// The first `Some` that `find` returns for the elements, in order. In the contract, `found` is the
-/// function that the definitions have for `find`.
+/// The first `Some` that `find` returns for the elements, in order. In the contract, `found` is a
+/// definition of what `find` returns.
 pub(crate) fn first_found<T, U, F: Fn(&T) -> Option<U>>(elements: &[T], find: F) -> Option<U>
     requires { F.IsAlwaysCallable find }
     ensures { (found : T → Option U)
-        → ((element : T) (result : Option U) → FnReturnsAt F.Fn find element result
-        → result ≡ found element)
+        → ((element : T) (answer : Option U) → FnReturnsAt F.Fn find element answer
+        → answer ≡ found element)
         → result ≡ find_map found elements.now }
 {
     for element in elements {
@@ -130,8 +130,8 @@ impl BundleHistory {
 
     /// The rule `block-reports`, if a block breaks it.
     ///
-    /// `plain` is whether all blocks are plain. Plain blocks do not break the rule, so then none is
-    /// looked at.
+    /// `plain` is whether all blocks are plain. If so, no block is looked at, since plain blocks do
+    /// not break the rule.
     #[tactic(auto, unfolding(crate::specs::Flags::block_reports))]
     fn block_reports(&self, plain: bool) -> Option<BundleRule>
         ensures { (long_head : Option ℕ) (payload_length : ℕ)
@@ -149,8 +149,8 @@ impl BundleHistory {
 
     /// The rule `block-flags`, if the flags of a block break it.
     ///
-    /// `plain` is whether all blocks are plain. Plain blocks do not break the rule, so then none is
-    /// looked at.
+    /// `plain` is whether all blocks are plain. If so, no block is looked at, since plain blocks do
+    /// not break the rule.
     #[tactic(auto, unfolding(crate::specs::Flags::block_flags))]
     fn block_flags(&self, plain: bool) -> Option<BundleRule>
         ensures { (long_head : Option ℕ) (payload_length : ℕ)

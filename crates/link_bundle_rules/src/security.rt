@@ -6,7 +6,7 @@ ghost use Rattle.std.specs.List.{list_any};
 ghost use Rattle.link_bundle_data.specs.DataView.{viewed_result};
 ghost use Rattle.link_bundle_rules.specs.Hidden.{has_known_targets, may_hide};
 ghost use Rattle.link_bundle_rules.specs.History.{bundle_of};
-ghost use Rattle.link_bundle_rules.specs.ReadBundle.{security_facts};
+ghost use Rattle.link_bundle_rules.specs.BundleFacts.{security_facts};
 ghost use Rattle.link_bundle_rules.specs.Security.{may_protect_primary, if_confidential_primary, if_other_context_flags, if_reserved_context, may_be_lost, if_may_be_lost, if_no_cipher};
 ghost use Rattle.link_bundle_rules.specs.Targets.{has_target, is_integrity, is_confidentiality};
 
@@ -23,10 +23,10 @@ use link_rules_shared::has_other_flags;
 /// The flags of a security context that are defined (RFC 9172 section 3.6).
 const CONTEXT_FLAGS: u64 = 0x01;
 
-/// The block is copied into every fragment (RFC 9171 section 4.2.4).
+/// The flag that asks for a copy of the block in every fragment (RFC 9171 section 4.2.4).
 const COPIED: u64 = 0x01;
 
-/// The block is discarded if it cannot be processed (RFC 9171 section 4.2.4).
+/// The flag that discards the block if it cannot be processed (RFC 9171 section 4.2.4).
 const DISCARDED: u64 = 0x10;
 
 /// The security context BIB-HMAC-SHA2 (RFC 9173 section 5.1).
@@ -71,7 +71,8 @@ fn kept_targets(targets: &[u64]) -> ArrayVec<u64, TARGETS_KEPT>
 }
 
 impl SecurityFacts {
-    /// What the rules need of a security block.
+    /// What the rules need of a security block. If its data is malformed or not read, what it says
+    /// is not known.
     pub(crate) fn of(read: &ReadBlockView<'_>) -> SecurityFacts
         ensures { result ≡ security_facts read.now.block.now
             (option_map viewed_result read.now.found) }
@@ -187,8 +188,8 @@ impl SecurityFacts {
         })
     }
 
-    /// Whether the flags permit to discard this block, or to leave it out of a fragment although it
-    /// encrypts the payload.
+    /// Whether the flags permit the loss of this block. A node may discard it, or may leave it out
+    /// of a fragment although the payload is one of its targets.
     fn may_be_lost(&self) -> bool
         ensures { result ≡ may_be_lost self.now }
     {
@@ -196,7 +197,7 @@ impl SecurityFacts {
             || (self.has_target(PAYLOAD_NUMBER) && !is_set(COPIED, self.flags))
     }
 
-    /// The rule that a block confidentiality block breaks by its flags.
+    /// The rule that a block confidentiality block breaks if its flags permit its loss.
     pub(crate) fn if_may_be_lost(&self) -> Option<BundleRule>
         ensures { result ≡ if_may_be_lost self.now }
     {
@@ -207,7 +208,8 @@ impl SecurityFacts {
         })
     }
 
-    /// The rule that a block confidentiality block breaks by a context without a cipher.
+    /// The rule that a block confidentiality block breaks by the context BIB-HMAC-SHA2, which has
+    /// no cipher.
     pub(crate) fn if_no_cipher(&self) -> Option<BundleRule>
         ensures { result ≡ if_no_cipher self.now }
     {

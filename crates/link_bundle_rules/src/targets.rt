@@ -43,19 +43,19 @@ fn if_bad_targets(block: &SecurityFacts) -> Option<BundleRule>
     })
 }
 
-/// What a rule asks of a target of a security block.
+/// What is wrong with a target of a security block, so that the target breaks a rule.
 #[derive(Clone, Copy, Debug, PartialEq, Eq)]
-enum Asked {
+enum TargetFault {
     /// It is no block of the bundle.
-    Missing,
-    /// It is a target of an earlier block of the same type.
-    Taken,
-    /// It is a target of a block integrity block and of a block confidentiality block.
-    Shared,
+    IsMissing,
+    /// It is a target of an earlier security block of the same type.
+    IsTargetOfEarlierBlock,
+    /// A block integrity block and a block confidentiality block share it.
+    IsSharedByBothTypes,
     /// It is a security block, and a target of a block integrity block.
-    Protected,
+    IsProtectedSecurityBlock,
     /// It is a block confidentiality block, and a target of one.
-    Encrypted,
+    IsEncryptedConfidentialityBlock,
 }
 
 impl BundleHistory {
@@ -63,17 +63,19 @@ impl BundleHistory {
     ghost use Rattle.std.specs.Bool.{then_some};
     ghost use Rattle.std.specs.List.{list_any};
     ghost use Rattle.link_bundle_rules.specs.History.{bundle_of};
-    ghost use Rattle.link_bundle_rules.specs.Targets.{is_confidentiality, counts, if_counted, first_counted, first_target, is_target_of, if_bad_targets, missing_target, security_targets, first_with, is_taken, security_twice, is_confidential, shared_target, integrity_target, confidential_target, is_asked};
+    ghost use Rattle.link_bundle_rules.specs.Targets.{is_confidentiality, counts, if_counted, first_counted, first_target, is_target_of, if_bad_targets, missing_target, security_targets, first_with, is_target_of_earlier_block, security_twice, is_confidential, shared_target, integrity_target, confidential_target, has_fault};
 
-    /// Whether a security block counts: its data is neither malformed nor hidden.
+    /// Whether a security block counts. It counts if its data is neither malformed nor unread, and
+    /// cannot be ciphertext.
     pub(crate) fn counts(&self, block: &SecurityFacts) -> bool
         ensures { result ≡ counts (bundle_of self.now None 0) block.now }
     {
         !block.is_malformed && !self.is_hidden_block(block.block_type, block.number)
     }
 
-    /// Returns `broken`, the rule that a security block breaks, if it counts, and else `None`.
-    pub(crate) fn if_counted(
+    /// Returns `broken` if this security block counts, and `None` otherwise. `broken` is the rule
+    /// that the block breaks, if any.
+    pub(crate) fn broken_if_counted(
         &self,
         block: &SecurityFacts,
         broken: Option<BundleRule>,
@@ -103,8 +105,8 @@ impl BundleHistory {
     }
 
     /// Whether an earlier block of the same type has this target.
-    fn is_taken(&self, block: &SecurityFacts, target: u64) -> bool
-        ensures { result ≡ is_taken (bundle_of self.now None 0) block.now target }
+    fn is_target_of_earlier_block(&self, block: &SecurityFacts, target: u64) -> bool
+        ensures { result ≡ is_target_of_earlier_block (bundle_of self.now None 0) block.now target }
     {
         match self.first_with(block.block_type, target) {
             Some(first) => first != block.number,
@@ -120,7 +122,7 @@ impl BundleHistory {
         security.iter().any(|block| self.is_target_of(BLOCK_CONFIDENTIALITY, target, block))
     }
 
-    /// Whether a number is that of a block after the primary one.
+    /// Whether some block after the primary one has this number.
     fn has_block(&self, number: u64) -> bool
         ensures { result ≡ list_any (λ block. block.number == number) self.now.blocks.items }
     {
@@ -128,7 +130,7 @@ impl BundleHistory {
         blocks.iter().any(|block| block.number == number)
     }
 
-    /// Whether a number is that of a security block.
+    /// Whether some security block has this number.
     fn is_security_block(&self, number: u64) -> bool
         ensures { result ≡ list_any (λ other. other.number == number) self.now.security.items }
     {
@@ -136,7 +138,7 @@ impl BundleHistory {
         security.iter().any(|other| other.number == number)
     }
 
-    /// Whether a number is that of a block confidentiality block.
+    /// Whether some block confidentiality block has this number.
     fn is_confidentiality_block(&self, number: u64) -> bool
         ensures { result ≡ list_any (λ other. (other.number == number) && is_confidentiality other)
             self.now.security.items }
@@ -145,24 +147,34 @@ impl BundleHistory {
         security.iter().any(|other| other.number == number && other.is_confidentiality())
     }
 
-    /// Whether the target of a block is as a rule asks.
-    fn is_asked(&self, asked: Asked, block: &SecurityFacts, target: u64) -> bool
-        ensures { result ≡ is_asked asked (bundle_of self.now None 0) block.now target }
+    /// Whether a target of a security block has this fault.
+    fn has_fault(&self, fault: TargetFault, block: &SecurityFacts, target: u64) -> bool
+        ensures { result ≡ has_fault fault (bundle_of self.now None 0) block.now target }
     {
-        match asked {
-            Asked::Missing => target != 0 && !self.has_block(target),
-            Asked::Taken => self.is_taken(block, target),
-            Asked::Shared => block.is_integrity() && self.is_confidential(target),
-            Asked::Protected => block.is_integrity() && self.is_security_block(target),
-            Asked::Encrypted => block.is_confidentiality() && self.is_confidentiality_block(target),
+        match fault {
+            TargetFault::IsMissing => target != 0 && !self.has_block(target),
+            TargetFault::IsTargetOfEarlierBlock => self.is_target_of_earlier_block(block, target),
+            TargetFault::IsSharedByBothTypes => {
+                block.is_integrity() && self.is_confidential(target)
+            }
+            TargetFault::IsProtectedSecurityBlock => {
+                block.is_integrity() && self.is_security_block(target)
+            }
+            TargetFault::IsEncryptedConfidentialityBlock => {
+                block.is_confidentiality() && self.is_confidentiality_block(target)
+            }
         }
     }
 
-    /// The number of a block and its first target that is as a rule asks. `None` without such a
+    /// The number of a block, and its first target that has this fault. `None` without such a
     /// target, or if the block does not count.
-    fn first_target(&self, asked: Asked, block: &SecurityFacts) -> Option<(u64, u64)>
+    fn first_target_if_counted(
+        &self,
+        fault: TargetFault,
+        block: &SecurityFacts,
+    ) -> Option<(u64, u64)>
         ensures { result ≡ if_counted (bundle_of self.now None 0)
-            (first_target (is_asked asked (bundle_of self.now None 0))) block.now }
+            (first_target (has_fault fault (bundle_of self.now None 0))) block.now }
     {
         if !self.counts(block) {
             return None;
@@ -170,20 +182,20 @@ impl BundleHistory {
         first_found(
             block.targets.as_slice(),
             |target| self
-                .is_asked(asked, block, *target)
+                .has_fault(fault, block, *target)
                 .then_some((block.number, *target)),
         )
     }
 
-    /// The number of the first block that counts and has a target as a rule asks, and the first
-    /// such target.
-    fn first_asked(&self, asked: Asked) -> Option<(u64, u64)>
+    /// Finds the first block that counts and has a target with this fault. The result is the number
+    /// of the block, and its first such target.
+    fn first_target_that(&self, fault: TargetFault) -> Option<(u64, u64)>
         ensures { result ≡ first_counted (bundle_of self.now None 0)
-            (first_target (is_asked asked (bundle_of self.now None 0))) }
+            (first_target (has_fault fault (bundle_of self.now None 0))) }
     {
         first_found(
             self.security.as_slice(),
-            |block| self.first_target(asked, block),
+            |block| self.first_target_if_counted(fault, block),
         )
     }
 
@@ -193,18 +205,19 @@ impl BundleHistory {
     {
         first_found(
             self.security.as_slice(),
-            |block| self.if_counted(block, if_bad_targets(block)),
+            |block| self.broken_if_counted(block, if_bad_targets(block)),
         )
     }
 
-    /// The rule `security-targets`, if a target is no block. A fragment may lack blocks.
+    /// The rule `security-targets`, if a target is no block. A fragment may lack blocks, so this is
+    /// not judged in a fragment.
     fn missing_target(&self) -> Option<BundleRule>
         ensures { result ≡ missing_target (bundle_of self.now None 0) }
     {
         if self.primary.fragment.is_some() {
             return None;
         }
-        let (block, target) = self.first_asked(Asked::Missing)?;
+        let (block, target) = self.first_target_that(TargetFault::IsMissing)?;
         Some(BundleRule::SecurityTargets {
             block,
             target: Some(target),
@@ -212,7 +225,9 @@ impl BundleHistory {
         })
     }
 
-    /// The rule `security-targets`, if the targets of one security block break it.
+    /// A security block names a target, and names none twice. In a bundle that is no fragment, each
+    /// target is a block of the bundle (section 3.6). Returns the rule `security-targets` if the
+    /// targets of a security block are otherwise.
     #[tactic(auto, unfolding(crate::specs::Targets::security_targets))]
     pub(crate) fn security_targets(&self) -> Option<BundleRule>
         ensures { (long_head : Option ℕ) (payload_length : ℕ)
@@ -225,43 +240,47 @@ impl BundleHistory {
         self.missing_target()
     }
 
-    /// The rule `security-twice`, if a target of two security blocks of one type breaks it.
+    /// No two security blocks of one type share a target (section 3.2). Returns the rule
+    /// `security-twice` if two of them do.
     #[tactic(auto, unfolding(crate::specs::Targets::security_twice))]
     pub(crate) fn security_twice(&self) -> Option<BundleRule>
         ensures { (long_head : Option ℕ) (payload_length : ℕ)
             → result ≡ security_twice (bundle_of self.now long_head payload_length) }
     {
-        let (block, target) = self.first_asked(Asked::Taken)?;
+        let (block, target) = self.first_target_that(TargetFault::IsTargetOfEarlierBlock)?;
         Some(BundleRule::SecurityTwice { block, target })
     }
 
-    /// The rule `shared-target`, if a target of blocks of both types breaks it.
+    /// A block integrity block shares no target with a block confidentiality block (section 3.9).
+    /// Returns the rule `shared-target` if one does.
     #[tactic(auto, unfolding(crate::specs::Targets::shared_target))]
     pub(crate) fn shared_target(&self) -> Option<BundleRule>
         ensures { (long_head : Option ℕ) (payload_length : ℕ)
             → result ≡ shared_target (bundle_of self.now long_head payload_length) }
     {
-        let (block, target) = self.first_asked(Asked::Shared)?;
+        let (block, target) = self.first_target_that(TargetFault::IsSharedByBothTypes)?;
         Some(BundleRule::SharedTarget { block, target })
     }
 
-    /// The rule `integrity-target`, if a target of a block integrity block breaks it.
+    /// No security block is a target of a block integrity block (section 3.7). Returns the rule
+    /// `integrity-target` if one is.
     #[tactic(auto, unfolding(crate::specs::Targets::integrity_target))]
     pub(crate) fn integrity_target(&self) -> Option<BundleRule>
         ensures { (long_head : Option ℕ) (payload_length : ℕ)
             → result ≡ integrity_target (bundle_of self.now long_head payload_length) }
     {
-        let (block, target) = self.first_asked(Asked::Protected)?;
+        let (block, target) = self.first_target_that(TargetFault::IsProtectedSecurityBlock)?;
         Some(BundleRule::IntegrityTarget { block, target })
     }
 
-    /// The rule `confidential-target`, if a target of a block confidentiality block breaks it.
+    /// No block confidentiality block is a target of another or of itself (section 3.8). Returns
+    /// the rule `confidential-target` if one is.
     #[tactic(auto, unfolding(crate::specs::Targets::confidential_target))]
     pub(crate) fn confidential_target(&self) -> Option<BundleRule>
         ensures { (long_head : Option ℕ) (payload_length : ℕ)
             → result ≡ confidential_target (bundle_of self.now long_head payload_length) }
     {
-        let (block, target) = self.first_asked(Asked::Encrypted)?;
+        let (block, target) = self.first_target_that(TargetFault::IsEncryptedConfidentialityBlock)?;
         Some(BundleRule::ConfidentialTarget { block, target })
     }
 }

@@ -1,4 +1,4 @@
--- The faults that stay, whatever bytes follow: all but `Cut` (the bytes end inside the bundle).
+-- The faults that stay, whatever bytes follow: all except `Cut` (the bytes end inside the bundle).
 
 use Rattle.std.specs.Prelude.{Bool, true, false}
 use Rattle.link_bundle_types.specs.declared.fault.BundleFault.{BundleFault}

@@ -1,4 +1,4 @@
--- Relations: an endpoint ID by its form and the bytes of its dtn name.
+-- Relations, but for formed_eid: an endpoint ID by its form and the bytes of its dtn name.
 
 use Rattle.std.specs.Prelude.{ℕ, ◌+◌, Bool, false, nat_le, List, [], length}
 use Rattle.link_bundle_types.specs.declared.eid.Eid.{Eid}
@@ -7,11 +7,11 @@ use Rattle.link_bundle_types.specs.declared.kept_eid.EidForm.{EidForm}
 use Rattle.link_bundle_types.specs.declared.kept_eid.EidForm.TheVariants.{DtnNone, Dtn, Ipn, Ipn3}
 
 -- the endpoint ID of this form, with the name `name` if the form is `Dtn`; other forms have no name
-abbrev pub formed : EidForm → List ℕ → Eid
-formed DtnNone name = eid.DtnNone
-formed Dtn name = eid.Dtn (record { items = name })
-formed (Ipn node service) name = eid.Ipn node service
-formed (Ipn3 allocator node service) name = eid.Ipn3 allocator node service
+abbrev pub formed_eid : EidForm → List ℕ → Eid
+formed_eid DtnNone name = eid.DtnNone
+formed_eid Dtn name = eid.Dtn (record { items = name })
+formed_eid (Ipn node service) name = eid.Ipn node service
+formed_eid (Ipn3 allocator node service) name = eid.Ipn3 allocator node service
 
 -- the bytes of a dtn name; there are none in another endpoint ID
 abbrev pub name_of : Eid → List ℕ

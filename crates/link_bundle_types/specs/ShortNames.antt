@@ -5,14 +5,14 @@ use Rattle.link_bundle_types.specs.declared.eid.{Eid.Eid, Eid.TheVariants.{DtnNo
 use Rattle.link_bundle_types.specs.declared.info.BundleInfo.{BundleInfo}
 
 -- the name of a dtn endpoint ID has at most 1,024 bytes; other endpoint IDs have no name
-abbrev pub IsShort : Eid → Type 0
-IsShort DtnNone = Unit {0}
-IsShort (Dtn name) = length name.items ≤ 1024
-IsShort (Ipn node service) = Unit {0}
-IsShort (Ipn3 allocator node service) = Unit {0}
+abbrev pub HasNoLongName : Eid → Type 0
+HasNoLongName DtnNone = Unit {0}
+HasNoLongName (Dtn name) = length name.items ≤ 1024
+HasNoLongName (Ipn node service) = Unit {0}
+HasNoLongName (Ipn3 allocator node service) = Unit {0}
 
 -- the names of a bundle's three endpoint IDs have at most 1,024 bytes each
 pub record HasShortNames (info : BundleInfo) : Type 0 where
-  pub source : IsShort info.source
-  pub destination : IsShort info.destination
-  pub report_to : IsShort info.report_to
+  pub source : HasNoLongName info.source
+  pub destination : HasNoLongName info.destination
+  pub report_to : HasNoLongName info.report_to

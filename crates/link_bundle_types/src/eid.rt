@@ -1,7 +1,7 @@
 //! Endpoint IDs (RFC 9171 section 4.2.5.1), by value and by reference.
 ghost use Rattle.std.specs.Prelude.{◌≡◌};
 ghost use Rattle.link_bundle_types.specs.EidView.{viewed_eid};
-ghost use Rattle.link_bundle_types.specs.ShortNames.{IsShort};
+ghost use Rattle.link_bundle_types.specs.ShortNames.{HasNoLongName};
 
 use arrayvec::ArrayVec;
 
@@ -26,9 +26,9 @@ pub enum Eid {
 }
 
 impl Eid {
-    /// The endpoint ID that a view shows. If it has a dtn name, this has at most 1,024 bytes.
+    /// The endpoint ID that a view shows. A dtn name in the view must have at most 1,024 bytes.
     pub fn of(view: EidView<'_>) -> Eid
-        requires { IsShort (viewed_eid view) }
+        requires { HasNoLongName (viewed_eid view) }
         ensures { result ≡ viewed_eid view.entry }
     {
         match view {
@@ -46,8 +46,8 @@ impl Eid {
     /// The same endpoint ID by reference.
     pub fn view(&self) -> EidView<'_>
         ensures view { viewed_eid result ≡ self.now }
-        // This holds for every value, since there is no room for a longer name.
-        ensures short { IsShort self.now }
+        // This holds for every value: there is no room for a name of more than 1,024 bytes.
+        ensures short { HasNoLongName self.now }
     {
         match self {
             Eid::DtnNone => EidView::DtnNone,

@@ -72,10 +72,10 @@ pub enum BundleFault {
 /// The state of a scan.
 #[derive(Clone, Copy, Debug, PartialEq, Eq)]
 pub enum State {
-    /// The bytes seen are no whole bundle and show no fault, so more are needed.
+    /// The seen bytes are no whole bundle and show no fault, so more are needed.
     Going,
-    /// The bytes seen are a whole bundle.
+    /// The seen bytes are a whole bundle.
     Ended,
-    /// The bytes seen are no bundle, whatever bytes follow: the fault and its offset.
+    /// The seen bytes are no bundle, whatever bytes follow: the fault and its offset.
     Failed(BundleFault, u64),
 }

@@ -34,7 +34,7 @@ pub struct BundleInfo {
 }
 
 impl BundleInfo {
-    /// The bundle that a view shows. Each dtn name in it has at most 1,024 bytes.
+    /// The bundle that a view shows. Each dtn name in the view must have at most 1,024 bytes.
     pub fn of(view: BundleView<'_>) -> BundleInfo
         requires { HasShortNames (viewed_info view) }
         ensures { result ≡ viewed_info view.entry }
@@ -56,7 +56,7 @@ impl BundleInfo {
     /// The same bundle by reference.
     pub fn view(&self) -> BundleView<'_>
         ensures view { viewed_info result ≡ self.now }
-        // This holds for every bundle, since its endpoint IDs have no room for longer names.
+        // This holds for every value: an endpoint ID has no room for longer names.
         ensures short { HasShortNames self.now }
     {
         // Each field is named, so that no new one is forgotten.

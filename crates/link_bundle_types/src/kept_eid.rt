@@ -31,11 +31,11 @@ pub struct KeptEid {
 impl Model for KeptEid {
     ghost use Rattle.std.specs.Prelude.{◌≤◌, take};
     ghost use Rattle.link_bundle_types.specs.declared.eid.Eid.{Eid};
-    ghost use Rattle.link_bundle_types.specs.KeptEid.{formed};
+    ghost use Rattle.link_bundle_types.specs.KeptEid.{formed_eid};
 
     ghost Value = { Eid };
 
-    ghost view = { λ eid. formed eid.form (take eid.length eid.name) };
+    ghost view = { λ eid. formed_eid eid.form (take eid.length eid.name) };
 
     ghost invariant = { λ eid. eid.length ≤ 1024 };
 }
@@ -50,8 +50,8 @@ fn write_at(buffer: &mut [u8], at: usize, bytes: &[u8])
 
 impl KeptEid {
     ghost use Rattle.link_bundle_types.specs.EidView.{viewed_eid};
-    ghost use Rattle.link_bundle_types.specs.ShortNames.{IsShort};
-    ghost use Rattle.link_bundle_types.specs.KeptEid.{formed, name_of, name_fits};
+    ghost use Rattle.link_bundle_types.specs.ShortNames.{HasNoLongName};
+    ghost use Rattle.link_bundle_types.specs.KeptEid.{formed_eid, name_of, name_fits};
     ghost use Rattle.link_bundle_types.specs.declared.eid.Eid.TheVariants.{DtnNone, Dtn};
 
     /// The endpoint ID `dtn:none`.
@@ -68,7 +68,7 @@ impl KeptEid {
     /// Keeps an endpoint ID of this form. A dtn name has no bytes yet.
     #[inline(always)]
     pub fn set(&mut self, form: EidForm)
-        ensures { self.new ≡ formed form [] }
+        ensures { self.new ≡ formed_eid form [] }
     {
         self.form = form;
         self.length = 0;
@@ -92,7 +92,7 @@ impl KeptEid {
     /// Keeps this endpoint ID, whose dtn name has at most 1,024 bytes.
     #[inline(always)]
     pub fn keep(&mut self, eid: EidView<'_>)
-        requires { IsShort (viewed_eid eid) }
+        requires { HasNoLongName (viewed_eid eid) }
         ensures { self.new ≡ viewed_eid eid.entry }
     {
         match eid {
@@ -111,7 +111,7 @@ impl KeptEid {
     /// The endpoint ID by reference.
     pub fn view(&self) -> EidView<'_>
         ensures view { viewed_eid result ≡ self.now }
-        ensures short { IsShort (viewed_eid result) }
+        ensures short { HasNoLongName (viewed_eid result) }
     {
         match self.form {
             EidForm::DtnNone => EidView::DtnNone,

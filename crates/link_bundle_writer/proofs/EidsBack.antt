@@ -12,7 +12,7 @@ use Rattle.link_bundle_blocks.specs.Reading.{ReadAt, row_at, bytes_at}
 use Rattle.link_bundle_writer.proofs.There.{ReadsThere, there_then, there_last, there_row, there_bytes, regrouped}
 use Rattle.link_bundle_writer.specs.EndpointIds.{EidFits, eid_bytes, is_short}
 use Rattle.link_bundle_writer.specs.Heads.{head_bytes}
-use Rattle.link_bundle_writer.specs.NewData.{age_bytes, hop_count_bytes, NodeReadsBack, AgeReadsBack, HopCountReadsBack}
+use Rattle.link_bundle_writer.specs.NewData.{age_bytes, hop_count_bytes, PreviousNodeReadsBack, BundleAgeReadsBack, HopCountReadsBack}
 
 pub there_unsigned : (number : ℕ) → number < 2 ^ 64
     → ReadsThere (row_at unsigned) number (head_bytes 0 number)
@@ -97,7 +97,7 @@ alone-all : (bytes : List ℕ) (found : BlockData) → alone bytes (length bytes
 unfolding alone
 alone-all bytes found = let same : (length bytes == length bytes) ≡ true = grind (arith, nat_tests) in rw same refl
 
-pub node_back : NodeReadsBack
+pub node_back : PreviousNodeReadsBack
 unfolding data_of previous_node
 node_back node fits short =
     rw (
@@ -105,7 +105,7 @@ node_back node fits short =
       alone-all (eid_bytes node) (PreviousNode node),
     ) refl
 
-pub age_back : AgeReadsBack
+pub age_back : BundleAgeReadsBack
 unfolding data_of bundle_age age_bytes
 age_back age fits =
     rw (

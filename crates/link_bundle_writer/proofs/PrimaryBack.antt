@@ -6,7 +6,7 @@ use Rattle.link_bundle_heads.specs.Rows.{◌>>=◌, unsigned, pair, primary_bloc
 use Rattle.link_bundle_blocks.specs.Blocks.{Primary}
 use Rattle.link_bundle_blocks.specs.{Bundle.opening_at, EndpointId.eid_at, Whole.whole_primary}
 use Rattle.link_bundle_blocks.specs.Reading.{ReadAt, row_at}
-use Rattle.link_bundle_blocks.specs.Primary.{PrimaryFields, ElementsAt, fragment_elements as fragment_read, primary_elements as elements_read, primary_at}
+use Rattle.link_bundle_blocks.specs.Primary.{AcceptedPrimaryFields, ElementsOrStop, fragment_elements as fragment_read, primary_elements as elements_read, primary_at}
 use Rattle.link_bundle_writer.proofs.There.{EndsThere, ReadsThere, there_then, there_last, regrouped}
 use Rattle.link_bundle_writer.proofs.EidsBack.{there_unsigned, there_pair, there_eid}
 use Rattle.link_bundle_writer.proofs.RowsThere.{there_version, there_primary, there_primary_check}
@@ -15,20 +15,20 @@ use Rattle.link_bundle_writer.specs.GoodBundle.{PrimaryFits}
 use Rattle.link_bundle_writer.specs.NewBlocks.{check_bytes, fragment_elements, fragment_bytes, says_fragment, primary_elements, primary_bytes, primary_is_writable}
 
 -- a part that comes after these fields
-abbrev part_after : {A : Type 0} → PrimaryFields → ReadAt A → ElementsAt A
+abbrev part_after : {A : Type 0} → AcceptedPrimaryFields → ReadAt A → ElementsOrStop A
 part_after fields (Ok read) = Ok read
 part_after fields (Err stop) = Err (fields, stop)
 
 element_there : {A : Type 0} {read : List ℕ → ℕ → ReadAt A} {value : A} {written : List ℕ}
-    (fields : PrimaryFields) → ReadsThere read value written
+    (fields : AcceptedPrimaryFields) → ReadsThere read value written
     → ReadsThere (λ bytes offset. part_after fields (read bytes offset)) value written
 element_there fields one = record {
   by = λ bytes offset more within here.
       ap (λ found. part_after fields found) (one.by bytes offset more within here);
 }
 
-module _ {A B : Type 0} (fields : PrimaryFields) (read : List ℕ → ℕ → ReadAt A)
-    (next : List ℕ → A × ℕ → ElementsAt B) {value : A} {given : ℕ → B × ℕ} where
+module _ {A B : Type 0} (fields : AcceptedPrimaryFields) (read : List ℕ → ℕ → ReadAt A)
+    (next : List ℕ → A × ℕ → ElementsOrStop B) {value : A} {given : ℕ → B × ℕ} where
   element_then : {first second : List ℕ} → ReadsThere read value first
       → EndsThere (λ bytes offset. next bytes (value, offset)) given second
       → EndsThere (λ bytes offset. part_after fields (read bytes offset) >>= next bytes) given

@@ -26,8 +26,8 @@ pub record PrimaryFits (primary : Primary) : Type 0 where
   pub fragment : IfSome primary.fragment
       (λ (offset, total). (offset < 2 ^ 64) × (total < 2 ^ 64))
 
--- Each number of a canonical block fits in 64 bits, the length of its data too. Its number agrees
--- with its type.
+-- The type, the number and the flags of a canonical block fit in 64 bits, and so does the length of
+-- its data. The number agrees with the type.
 pub record BlockFits (block : NewBlock) : Type 0 where
   pub type : block.type < 2 ^ 64
   pub number : block.number < 2 ^ 64

@@ -34,8 +34,8 @@ array count = head_bytes 4 count
 
 -- ---- laws
 
--- A law: a head is read as it was written, whatever bytes follow it. Major type 7 is left out: of
--- its heads, a bundle has only the break.
+-- A law: a head is read as it was written, whatever bytes follow it. Major type 7 is left out,
+-- since a bundle has only one head of it, the break.
 abbrev pub HeadReadsBack : Type 0
 HeadReadsBack =
     (major value : ℕ) (more : List ℕ) → major < 7 → value < 2 ^ 64 →

@@ -45,14 +45,15 @@ abbrev pub fragment_bytes : Option (ℕ × ℕ) → List ℕ
 fragment_bytes None = []
 fragment_bytes (Some (offset, total)) = unsigned offset ++ unsigned total
 
--- the beginning of the primary block (section 4.3.1): the head of its array, and the first
--- elements, which are the version (7), the flags and the check type
+-- The beginning of the primary block (section 4.3.1): the head of its array, and the first
+-- elements, which are the version (7), the flags and the check type. Each primary block has eight
+-- elements. A fragment and a check add to them.
 abbrev pub primary_front : Primary → Option CheckKind → List ℕ
 primary_front primary check =
     array (8 + fragment_elements primary.fragment + check_elements check)
     ++ unsigned 7 ++ unsigned primary.flags ++ unsigned (check_type check)
 
--- the next elements: the destination, the source node and the report-to endpoint
+-- the elements after `primary_front`: the destination, the source node and the report-to endpoint
 abbrev pub primary_eids : Primary → List ℕ
 primary_eids primary =
     eid_bytes primary.destination ++ eid_bytes primary.source ++ eid_bytes primary.report_to
@@ -73,8 +74,8 @@ primary_elements primary check =
 unfoldable pub primary_bytes : Primary → Option CheckKind → List ℕ
 primary_bytes primary check = checked check (primary_elements primary check)
 
--- Whether flag 01, which is set in a fragment alone (section 4.2.3), agrees with the fragment
--- offset and the total length: either the flag is set and both are there, or neither.
+-- Whether flag 01 agrees with the fragment offset and the total length. A fragment alone sets this
+-- flag (section 4.2.3), and it alone has these two numbers.
 abbrev pub says_fragment : Bool → Option (ℕ × ℕ) → Bool
 says_fragment true (Some fragment) = true
 says_fragment false None = true
@@ -85,7 +86,8 @@ abbrev pub has_short_names : Primary → Bool
 has_short_names primary =
     is_short primary.destination && (is_short primary.source && is_short primary.report_to)
 
--- whether a primary block with these fields is written; no scan accepts any other
+-- Whether flag 01 agrees with the fragment, and each dtn name has at most 1,024 bytes. No other
+-- primary block is written, and no scan accepts another.
 unfoldable pub primary_is_writable : Primary → Bool
 primary_is_writable primary =
     says_fragment (is_fragment primary.flags) primary.fragment && has_short_names primary

@@ -17,14 +17,14 @@ unfoldable pub hop_count_bytes : (limit count : ℕ) → List ℕ
 hop_count_bytes limit count = array 2 ++ unsigned limit ++ unsigned count
 
 -- A law: the data of a previous node block is read as the endpoint ID that it was written from.
-abbrev pub NodeReadsBack : Type 0
-NodeReadsBack =
+abbrev pub PreviousNodeReadsBack : Type 0
+PreviousNodeReadsBack =
     (node : Eid) → EidFits node → is_short node ≡ true →
     data_of kind.PreviousNode (eid_bytes node) ≡ Ok (PreviousNode node)
 
 -- A law: the data of a bundle age block is read as the age that it was written from.
-abbrev pub AgeReadsBack : Type 0
-AgeReadsBack =
+abbrev pub BundleAgeReadsBack : Type 0
+BundleAgeReadsBack =
     (age : ℕ) → age < 2 ^ 64 → data_of kind.BundleAge (age_bytes age) ≡ Ok (BundleAge age)
 
 -- A law: the data of a hop count block is read as the limit and the count that it was written from.

@@ -3,7 +3,7 @@
 ghost use Rattle.std.specs.Prelude.{◌≡◌};
 ghost use Rattle.link_bundle_heads.specs.Rows.{fits_type};
 ghost use Rattle.link_bundle_writer.specs.NewBlocks.{block_head_of};
-ghost use Rattle.link_writing.specs.Writes.{WritesSlice};
+ghost use Rattle.link_writing.specs.Writes.{WritesIntoSlice};
 
 use crate::check::{check_elements, check_type};
 use crate::head::{BYTE_STRING, put_array, put_head, put_unsigned};
@@ -44,11 +44,11 @@ fn fits_type(block_type: u64, number: u64) -> bool
 ///
 /// # Errors
 ///
-/// The block number is 0; or it is 1, but the block is no payload block; or the block is the
-/// payload block, but its number is not 1. Or the slice is too small.
+/// The block number is 0. Or a payload block has another number than 1, or a block of another type
+/// has the number 1. Or the slice is too small.
 #[tactic(auto, unfolding(crate::specs::NewBlocks::block_head))]
 pub fn write_block_head(head: &BlockHead, slice: &mut [u8]) -> Result<usize, WriteFault>
-    ensures { WritesSlice (block_head_of head.now.block_type head.now.number head.now.flags
+    ensures { WritesIntoSlice (block_head_of head.now.block_type head.now.number head.now.flags
         head.now.check head.now.data_length) slice.old slice.new result }
 {
     if !fits_type(head.block_type, head.number) {

@@ -1,10 +1,10 @@
 //! Check fields (RFC 9171 section 4.2.2).
 
 ghost use Rattle.std.specs.Prelude.{◌≡◌, ℕ, List, Some};
-ghost use Rattle.link_cbor.specs.Pushed.{HasPushed};
+ghost use Rattle.link_cbor.specs.Pushed.{IsCheckAt};
 ghost use Rattle.link_bundle_heads.specs.Rows.{check_elements};
 ghost use Rattle.link_bundle_writer.specs.NewBlocks.{check_type, check_field, check_bytes};
-ghost use Rattle.link_writing.specs.Writes.{WritesSlice};
+ghost use Rattle.link_writing.specs.Writes.{WritesIntoSlice};
 
 use arrayvec::ArrayVec;
 use link_cbor::{Check, CheckKind};
@@ -42,10 +42,12 @@ pub(crate) fn check_elements(check: Option<CheckKind>) -> u64
     }
 }
 
-/// The check field of a block whose bytes before the field were pushed.
+/// The check field of a block. All bytes of the block before this field were pushed into `check`.
+///
+/// The check value covers the whole block, where the content of the field counts as zeros.
 #[tactic(auto, unfolding(crate::specs::NewBlocks::check_field, crate::specs::Heads::head_bytes))]
 pub(crate) fn check_field(kind: CheckKind, mut check: Check) -> Field
-    ensures { (block : List ℕ) → HasPushed kind check block
+    ensures { (block : List ℕ) → IsCheckAt kind check block
         → result.items ≡ check_field kind block }
 {
     let mut field = Field::new();
@@ -89,8 +91,8 @@ pub(crate) fn field_of(check: Option<CheckKind>, block: &[u8]) -> Field
 ///
 /// The slice is too small. The field has three bytes for a CRC-16, and five for a CRC-32.
 pub fn write_check(kind: CheckKind, check: &Check, slice: &mut [u8]) -> Result<usize, WriteFault>
-    ensures { (block : List ℕ) → HasPushed kind check.now block
-        → WritesSlice (Some (check_field kind block)) slice.old slice.new result }
+    ensures { (block : List ℕ) → IsCheckAt kind check.now block
+        → WritesIntoSlice (Some (check_field kind block)) slice.old slice.new result }
 {
     write_bytes(check_field(kind, *check).as_slice(), slice)
 }

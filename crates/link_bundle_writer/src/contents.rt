@@ -1,7 +1,7 @@
 //! The data of blocks (RFC 9171 section 4.4).
 
 ghost use Rattle.link_bundle_writer.specs.NewData.{age_bytes, hop_count_bytes};
-ghost use Rattle.link_writing.specs.Writes.{WritesSlice};
+ghost use Rattle.link_writing.specs.Writes.{WritesIntoSlice};
 
 use crate::head::{put_array, put_unsigned};
 use arrayvec::ArrayVec;
@@ -23,7 +23,7 @@ pub const HOP_COUNT_MAX: usize = 27;
 /// The slice is too small.
 #[tactic(auto, unfolding(crate::specs::NewData::age_bytes))]
 pub fn write_age(age: u64, slice: &mut [u8]) -> Result<usize, WriteFault>
-    ensures { WritesSlice (Some (age_bytes age)) slice.old slice.new result }
+    ensures { WritesIntoSlice (Some (age_bytes age)) slice.old slice.new result }
 {
     let mut bytes: ArrayVec<u8, AGE_MAX> = ArrayVec::new();
     put_unsigned(&mut bytes, age);
@@ -38,7 +38,7 @@ pub fn write_age(age: u64, slice: &mut [u8]) -> Result<usize, WriteFault>
 /// The slice is too small.
 #[tactic(auto, unfolding(crate::specs::NewData::hop_count_bytes))]
 pub fn write_hop_count(limit: u64, count: u64, slice: &mut [u8]) -> Result<usize, WriteFault>
-    ensures { WritesSlice (Some (hop_count_bytes limit count)) slice.old slice.new result }
+    ensures { WritesIntoSlice (Some (hop_count_bytes limit count)) slice.old slice.new result }
 {
     let mut bytes: ArrayVec<u8, HOP_COUNT_MAX> = ArrayVec::new();
     put_array(&mut bytes, 2);

@@ -4,7 +4,7 @@ ghost use Rattle.std.specs.Prelude.{◌≡◌, ◌+◌, ◌≤◌, ◌++◌, tru
 ghost use Rattle.arrayvec.specs.ArrayVec.{array_vec_len};
 ghost use Rattle.link_bundle_types.specs.EidView.{viewed_eid};
 ghost use Rattle.link_bundle_writer.specs.EndpointIds.{eid_bytes, is_short, eid_of};
-ghost use Rattle.link_writing.specs.Writes.{WritesSlice};
+ghost use Rattle.link_writing.specs.Writes.{WritesIntoSlice};
 
 use crate::head::{TEXT_STRING, put_array, put_head, put_unsigned};
 use arrayvec::ArrayVec;
@@ -72,7 +72,7 @@ pub(crate) fn put_eid<const N: usize>(buffer: &mut ArrayVec<u8, N>, eid: &EidVie
 ///
 /// A dtn name has more than 1,024 bytes, or the slice is too small.
 pub fn write_eid(eid: &EidView<'_>, slice: &mut [u8]) -> Result<usize, WriteFault>
-    ensures { WritesSlice (eid_of (viewed_eid eid.now)) slice.old slice.new result }
+    ensures { WritesIntoSlice (eid_of (viewed_eid eid.now)) slice.old slice.new result }
 {
     if !is_short(eid) {
         return Err(WriteFault::OutOfRange);

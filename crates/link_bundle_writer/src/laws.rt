@@ -4,7 +4,7 @@
 
 ghost use Rattle.link_bundle_writer.specs.GoodBundle.{BundleReadsBack};
 ghost use Rattle.link_bundle_writer.specs.Heads.{HeadReadsBack, HeadIsShortest};
-ghost use Rattle.link_bundle_writer.specs.NewData.{NodeReadsBack, AgeReadsBack, HopCountReadsBack};
+ghost use Rattle.link_bundle_writer.specs.NewData.{PreviousNodeReadsBack, BundleAgeReadsBack, HopCountReadsBack};
 
 /// A head is read as it was written, and no head of the same meaning is shorter.
 pub fn heads()
@@ -14,8 +14,8 @@ pub fn heads()
 
 /// The data of previous node, bundle age and hop count blocks is read as it was written.
 pub fn data_reads_back()
-    ensures node { NodeReadsBack }
-    ensures age { AgeReadsBack }
+    ensures node { PreviousNodeReadsBack }
+    ensures age { BundleAgeReadsBack }
     ensures hop_count { HopCountReadsBack }
 {}
 

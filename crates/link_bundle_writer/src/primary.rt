@@ -5,7 +5,7 @@ ghost use Rattle.arrayvec.specs.ArrayVec.{array_vec_len};
 ghost use Rattle.link_bundle_heads.specs.Rows.{is_fragment};
 ghost use Rattle.link_bundle_writer.specs.NewBlocks.{says_fragment, has_short_names, primary_is_writable, fragment_elements, primary_front, primary_eids, primary_rest, primary_elements, primary_of};
 ghost use Rattle.link_bundle_writer.specs.NewPrimary.{viewed_new};
-ghost use Rattle.link_writing.specs.Writes.{WritesSlice};
+ghost use Rattle.link_writing.specs.Writes.{WritesIntoSlice};
 
 use crate::check::{check_elements, check_type, field_of};
 use crate::eid::{is_short, put_eid};
@@ -56,7 +56,8 @@ fn says_fragment(flags: u64, fragment: Option<(u64, u64)>) -> bool
     is_fragment(flags) == fragment.is_some()
 }
 
-/// Whether a scan accepts these fields.
+/// Whether flag 01 and `fragment` agree, and each dtn name has at most 1,024 bytes. A scan accepts
+/// no other primary block.
 #[tactic(auto, unfolding(crate::specs::NewBlocks::primary_is_writable))]
 fn is_writable(primary: &NewPrimary<'_>) -> bool
     ensures { result ≡ primary_is_writable (viewed_new primary.now) }
@@ -80,13 +81,14 @@ fn fragment_elements(fragment: Option<(u64, u64)>) -> u64
     }
 }
 
-/// Appends the array's head, the version, the flags and the check type: four heads, of at most nine
-/// bytes each.
+/// Appends the array's head, the version, the flags and the check type. Each of these four heads
+/// has at most nine bytes, so together they have at most 36.
 fn put_front(elements: &mut Elements, primary: &NewPrimary<'_>)
     requires { elements.old.items ≡ [] }
     ensures items { elements.new.items ≡ primary_front (viewed_new primary.now) primary.now.check }
     ensures len { array_vec_len elements.new ≤ 36 }
 {
+    // Each primary block has eight elements. A fragment and a check add to them.
     let fields = 8 + fragment_elements(primary.fragment) + check_elements(primary.check);
     put_array(elements, fields);
     put_unsigned(elements, VERSION);
@@ -94,7 +96,8 @@ fn put_front(elements: &mut Elements, primary: &NewPrimary<'_>)
     put_unsigned(elements, check_type(primary.check));
 }
 
-/// Appends the three endpoint IDs, of at most `EID_MAX` bytes each.
+/// Appends the three endpoint IDs after the bytes of [`put_front`], which are at most 36. Each
+/// endpoint ID has at most 1,051 bytes (`EID_MAX`), so all bytes together are at most 3,189.
 fn put_eids(elements: &mut Elements, primary: &NewPrimary<'_>)
     requires short { has_short_names (viewed_new primary.now) ≡ true }
     requires room { array_vec_len elements.old ≤ 36 }
@@ -107,7 +110,8 @@ fn put_eids(elements: &mut Elements, primary: &NewPrimary<'_>)
     put_eid(elements, &primary.report_to);
 }
 
-/// Appends the creation timestamp, the lifetime, and the fields of a fragment.
+/// Appends the creation timestamp, the lifetime, and the fields of a fragment. At most 3,189 bytes
+/// come before them, as [`put_eids`] says.
 fn put_rest(elements: &mut Elements, primary: &NewPrimary<'_>)
     requires { array_vec_len elements.old ≤ 3189 }
     ensures { elements.new.items ≡ elements.old.items ++ primary_rest (viewed_new primary.now) }
@@ -144,7 +148,7 @@ fn elements_of(primary: &NewPrimary<'_>) -> Elements
 /// than 1,024 bytes, or the slice is too small.
 #[tactic(auto, unfolding(crate::specs::NewBlocks::primary_bytes, crate::specs::NewBlocks::primary_is_writable))]
 pub fn write_primary(primary: &NewPrimary<'_>, slice: &mut [u8]) -> Result<usize, WriteFault>
-    ensures { WritesSlice
+    ensures { WritesIntoSlice
         (primary_of (viewed_new primary.now) primary.now.check) slice.old slice.new
         result }
 {

@@ -5,12 +5,12 @@ use Rattle.std.specs.Int.Bits.{bit_xor}
 use Rattle.std.proofs.lemmas.{Nat.{shr-shr, xor_comm, xor_lt}, List.drop_more}
 use Rattle.std.proofs.lemmas.List.Elements.{All-drop}
 use Rattle.link_cbor.specs.{declared.check.CheckKind.CheckKind, Crc.register_after}
-use Rattle.link_cbor.specs.{CrcTables.AreTables, Head.AreBytes}
+use Rattle.link_cbor.specs.{CrcTables.AreCrcTables, Head.AreBytes}
 use Rattle.link_cbor.proofs.{CrcLaws.register_after-byte_zeros, Linear.register_after-split}
 
 -- the first byte of a message is looked up in the table whose number is that of the bytes after it
 pub looked_up : (kind : CheckKind) (tables : List (List ℕ)) (register byte : ℕ) (bytes : List ℕ)
-    → AreTables kind tables → byte < 256 → AreBytes bytes → length bytes < 16
+    → AreCrcTables kind tables → byte < 256 → AreBytes bytes → length bytes < 16
     → register_after kind register (byte ∷ bytes)
     ≡ bit_xor (get_or (get_or tables (length bytes) []) (bit_xor (register % 256) byte) 0)
     (register_after kind (register / 256) bytes)
@@ -26,7 +26,7 @@ looked_up kind tables register byte bytes rule below all few =
 -- `zeros` bytes, from the rest of the register before them.
 pub looked_up-before : (kind : CheckKind) (tables : List (List ℕ)) (register : ℕ)
     (bytes : List ℕ) (sum zeros : ℕ)
-    → AreTables kind tables → AreBytes bytes → length bytes ≡ 16 → zeros < 16
+    → AreCrcTables kind tables → AreBytes bytes → length bytes ≡ 16 → zeros < 16
     → register_after kind (register / 2 ^ (8 * (16 - zeros))) (drop (16 - zeros) bytes) ≡ sum
     → register_after kind (register / 2 ^ (8 * (15 - zeros))) (drop (15 - zeros) bytes)
     ≡ bit_xor sum

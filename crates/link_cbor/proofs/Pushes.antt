@@ -5,14 +5,14 @@ use Rattle.std.specs.List.{concat}
 use Rattle.std.proofs.{Math.Seq.take-add, lemmas.List.Elements.All-append}
 use Rattle.std.specs.Simd.{first_chunks}
 use Rattle.link_cbor.specs.declared.check.{Check.Check, CheckKind.CheckKind}
-use Rattle.link_cbor.specs.{Crc.{all_ones, register_after}, Head.AreBytes, Pushed.HasPushed}
+use Rattle.link_cbor.specs.{Crc.{all_ones, register_after}, Head.AreBytes, Pushed.IsCheckAt}
 use Rattle.link_cbor.proofs.CrcLaws.{register_after-append}
 
 -- the register of the check has consumed more bytes
 pub pushed_more : (kind : CheckKind) (old new : Check) (bytes more : List ℕ)
-    → HasPushed kind old bytes → AreBytes more
+    → IsCheckAt kind old bytes → AreBytes more
     → new.kind ≡ old.kind → new.register ≡ register_after old.kind old.register more
-    → HasPushed kind new (bytes ++ more)
+    → IsCheckAt kind new (bytes ++ more)
 pushed_more kind old new bytes more pushed all same went = record {
   all_bytes = All-append (λ byte. byte < 256) bytes more pushed.all_bytes all;
   same_kind = same ∙ pushed.same_kind;

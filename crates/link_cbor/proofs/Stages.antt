@@ -12,7 +12,7 @@ use Rattle.link_cbor.specs.declared.head_scan.HeadStage.TheVariants.{Argument, W
 use Rattle.link_cbor.specs.declared.head.{HeadStep.HeadStep}
 use Rattle.link_cbor.specs.Head.{big_endian, head_front, front_by_step, step_at, argument_front, with_argument}
 use Rattle.link_cbor.proofs.{HeadLaws.front_by-argument, Fronts.first_by}
-use Rattle.link_cbor.specs.Stage.{front_from, in_argument, stage_step, head_stage_fits, IsStageOfHead}
+use Rattle.link_cbor.specs.Stage.{front_from, in_argument, stage_step, head_stage_fits, IsStageInHead}
 
 -- the bounds of an argument, from `head_stage_fits`
 pub record ArgumentFits (count left value : ℕ) : Type 0 where
@@ -38,7 +38,7 @@ unfolding front_from head_front argument_front head_stage_fits
 outcome_from count stage fits = grind (arith, nat_tests)
 
 pub outcome_front : (count : ℕ) (stage : HeadStage) (seen : List ℕ) → count ≡ length seen
-    → IsStageOfHead count stage (λ more. head_front (seen ++ more))
+    → IsStageInHead count stage (λ more. head_front (seen ++ more))
     → head_front seen ≡ front_by_step (stage_step stage) (length seen)
 outcome_front count stage seen size stands =
     ap head_front (sym (append-nil seen)) ∙ stands.reads [] ∙ outcome_from count stage stands.fits
@@ -84,7 +84,7 @@ value_fits count major left value byte test below =
 -- one more byte of an argument, which may be its last
 pub stands-next : (count major left value byte : ℕ)
     → head_stage_fits count (Argument major left value) ≡ true → byte < 256
-    → IsStageOfHead (count + 1) (in_argument major (left - 1) (value * 256 + byte))
+    → IsStageInHead (count + 1) (in_argument major (left - 1) (value * 256 + byte))
     (λ more. front_from count (Argument major left value) (byte ∷ more))
 unfolding head_stage_fits
 stands-next count major zero value byte test below = absurd (false≢true test)
@@ -125,7 +125,7 @@ one_byte (suc beyond) one = absurd (omega arith)
 -- additional information 24 to 27
 pub begins-argument : (first : ℕ) → 24 ≤ bit_and first 31
     → bit_and first 31 < 28 → (first ≡ 0xf8 → ⊥)
-    → IsStageOfHead 1 (Argument (first / 32) (1 * 2 ^ (bit_and first 31 - 24) % 256) 0)
+    → IsStageInHead 1 (Argument (first / 32) (1 * 2 ^ (bit_and first 31 - 24) % 256) 0)
     (λ more. head_front (first ∷ more))
 begins-argument first least below other =
     let major = first / 32 in
@@ -152,9 +152,9 @@ begins-argument first least below other =
 -- ---- the history, with one more byte
 
 pub scanned_more : (count : ℕ) (stage next : HeadStage) (seen : List ℕ) (byte : ℕ)
-    → IsStageOfHead count stage (λ more. head_front (seen ++ more))
-    → IsStageOfHead (count + 1) next (λ more. front_from count stage (byte ∷ more))
-    → IsStageOfHead (count + 1) next (λ more. head_front ((seen ++ byte ∷ []) ++ more))
+    → IsStageInHead count stage (λ more. head_front (seen ++ more))
+    → IsStageInHead (count + 1) next (λ more. front_from count stage (byte ∷ more))
+    → IsStageInHead (count + 1) next (λ more. head_front ((seen ++ byte ∷ []) ++ more))
 scanned_more count stage next seen byte before step = record {
   fits = step.fits;
   reads = λ more. ap head_front (append_assoc seen (byte ∷ []) more) ∙ before.reads (byte ∷ more)

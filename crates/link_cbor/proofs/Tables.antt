@@ -9,7 +9,7 @@ use Rattle.link_cbor.specs.declared.check.CheckKind.{CheckKind}
 use Rattle.link_cbor.specs.declared.check.CheckKind.TheVariants.{Crc16, Crc32}
 use Rattle.link_cbor.specs.declared.check.crc16.TheConstants.{TABLES as CRC16_TABLES}
 use Rattle.link_cbor.specs.{declared.check.crc32.TheConstants.TABLES as CRC32_TABLES, Crc.turn}
-use Rattle.link_cbor.specs.CrcTables.{AreTables}
+use Rattle.link_cbor.specs.CrcTables.{AreCrcTables}
 use Rattle.link_cbor.proofs.CrcLaws.{zero_turns, zero_turns-add, register_after-byte_zeros}
 
 -- each entry is the register in the same position of the first list, after one zero byte
@@ -62,17 +62,17 @@ are_next-at kind registers (table ∷ tables) (suc k) index next there within =
     ∙ ap (λ count. zero_turns kind count (get_or registers index 0)) bits
 
 are_tables : (kind : CheckKind) (tables : List (List ℕ)) → length tables ≡ 16
-    → are_next kind (range_with_len 0 256) tables ≡ true → AreTables kind tables
+    → are_next kind (range_with_len 0 256) tables ≡ true → AreCrcTables kind tables
 are_tables kind tables sixteen next k byte there below =
     are_next-at kind (range_with_len 0 256) tables k byte next (omega arith)
     (omega (arith, length-range_with_len 0 256))
     ∙ ap (zero_turns kind (8 * (k + 1))) (get_or-range_with_len 0 256 byte 0 below ∙ zero-add byte)
     ∙ sym (register_after-byte_zeros kind byte k below)
 
-pub crc16_tables : AreTables Crc16 CRC16_TABLES
+pub crc16_tables : AreCrcTables Crc16 CRC16_TABLES
 unfolding is_next are_next zero_turns turn
 crc16_tables = are_tables Crc16 CRC16_TABLES refl refl
 
-pub crc32_tables : AreTables Crc32 CRC32_TABLES
+pub crc32_tables : AreCrcTables Crc32 CRC32_TABLES
 unfolding is_next are_next zero_turns turn
 crc32_tables = are_tables Crc32 CRC32_TABLES refl refl

@@ -31,7 +31,7 @@ unfoldable pub turn : CheckKind → ℕ → ℕ → ℕ
 turn kind register bit =
     if register % 2 == bit then register / 2 else bit_xor (register / 2) (polynomial kind)
 
--- the register after these bytes, whose bits come one by one; `register` is the one before them
+-- The register after these bytes, whose bits come one by one. Before them it is `register`.
 unfoldable pub register_after : CheckKind → ℕ → List ℕ → ℕ
 register_after kind register bytes = fold (turn kind) register (all_bits bytes)
 

@@ -43,7 +43,7 @@ no_argument major =
 
 -- A head by its major type, its additional information and the bytes after the first one (section
 -- 3). Up to 23 the information is the argument. From 24 to 27 the argument is in the next 1, 2, 4
--- or 8 bytes. From 28 to 30 it is ill-formed.
+-- or 8 bytes. From 28 to 30 the head is ill-formed. With 31 there is no argument.
 unfoldable pub front_by : ℕ → ℕ → List ℕ → HeadFront
 front_by major information rest =
     if nat_lt information 24 then Whole (record { major = major; value = Some information }) 1 else
@@ -62,11 +62,11 @@ whole_of Cut = None
 whole_of IllFormed = None
 whole_of (Whole head size) = Some (head, size)
 
--- whether a head is that of a string, an array or a map of indefinite length (section 3.2)
+-- whether a head begins a string, an array or a map of indefinite length (section 3.2)
 abbrev pub is_indefinite : Head → Bool
 is_indefinite head = not (is_some head.value) && not (head.major == 7)
 
--- the outcome of a scan, if this is what its bytes so far begin with
+-- The outcome of a scan. The argument is what the seen bytes begin with.
 abbrev pub step_at : HeadFront → HeadStep
 step_at Cut = More
 step_at IllFormed = Bad

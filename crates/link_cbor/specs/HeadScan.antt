@@ -3,14 +3,14 @@
 use Rattle.std.specs.Prelude.{◌≡◌, ℕ, Bool, List, ◌++◌, length}
 use Rattle.link_cbor.specs.declared.head_scan.HeadScan.{HeadScan}
 use Rattle.link_cbor.specs.Head.{AreBytes, head_front, is_cut}
-use Rattle.link_cbor.specs.Stage.{wants_more, IsStageOfHead}
+use Rattle.link_cbor.specs.Stage.{wants_more, IsStageInHead}
 
 -- The scan has seen exactly these bytes. Whatever bytes follow, the stage of the scan determines
 -- the head that all of them begin with.
 pub record HasScannedHead (scan : HeadScan) (seen : List ℕ) : Type 0 where
   pub bytes : AreBytes seen
   pub count : scan.count ≡ length seen
-  pub stands : IsStageOfHead scan.count scan.stage (λ more. head_front (seen ++ more))
+  pub stands : IsStageInHead scan.count scan.stage (λ more. head_front (seen ++ more))
 
 -- the number of bytes seen
 abbrev pub head_scan_size : HeadScan → ℕ

@@ -4,7 +4,7 @@
 use Rattle.std.proofs.Common.{◌≡◌, ℕ, zero, suc, ◌<◌, Bool, true, false, List, [], ◌∷◌, ◌++◌, length, take, refl, sym, ap, ◌⊎◌, inl, inr, ⊎_elim, append_assoc, arith}
 use Rattle.std.proofs.lemmas.List.{append-nil}
 use Rattle.std.proofs.lemmas.Bool.{cases_Bool}
-use Rattle.link_cbor.specs.Pieces.{taken, IsShortestPrefix, PiecesAreTakenAsOne, TakenIsShortest}
+use Rattle.link_cbor.specs.Pieces.{taken, IsShortestPrefix, PiecesAreTakenAsOne, TakenIsShortestPrefix}
 
 -- no byte is taken if none is needed
 pub taken-idle : (goes : List ℕ → Bool) (seen bytes : List ℕ) → goes seen ≡ false
@@ -51,6 +51,8 @@ shortest-none goes seen bytes stop = record {
   stops = rw append-nil stop;
 }
 
+-- If more bytes are needed before `byte`, and after it before each byte of `front`, then they are
+-- needed before each byte of `byte ∷ front`.
 wanted-more : (goes : List ℕ → Bool) (seen : List ℕ) (byte : ℕ) (front : List ℕ) → goes seen ≡ true
     → ((count : ℕ) → count < length front → goes ((seen ++ byte ∷ []) ++ take count front) ≡ true)
     → (count : ℕ) → count < suc (length front) → goes (seen ++ take count (byte ∷ front)) ≡ true
@@ -100,7 +102,7 @@ is_taken goes seen (byte ∷ bytes) (first ∷ front) shortest =
     rw (taken-cons goes seen byte bytes (rw append-nil at (shortest.wanted 0 (omega arith))), same)
     (ap (λ (t : List ℕ). byte ∷ t) (is_taken goes (seen ++ byte ∷ []) bytes front rest))
 
-pub takes_shortest : (goes : List ℕ → Bool) → TakenIsShortest goes
+pub takes_shortest : (goes : List ℕ → Bool) → TakenIsShortestPrefix goes
 takes_shortest goes seen bytes front = (
   is_taken goes seen bytes front,
   λ same. rw same (taken_is_shortest goes seen bytes),

@@ -28,7 +28,7 @@ PiecesAreTakenAsOne goes =
 
 -- A law: `taken` is the shortest prefix. It is the only list with the properties of
 -- `IsShortestPrefix`.
-abbrev pub TakenIsShortest : (List ℕ → Bool) → Type 0
-TakenIsShortest goes =
+abbrev pub TakenIsShortestPrefix : (List ℕ → Bool) → Type 0
+TakenIsShortestPrefix goes =
     (seen bytes front : List ℕ)
     → IsShortestPrefix goes seen bytes front ↔ (front ≡ taken goes seen bytes)

@@ -19,7 +19,8 @@ front_from count Simple more = argument_front 7 1 more
 front_from count (WholeHead head) more = Whole head count
 front_from count NoHead more = IllFormed
 
--- the stage of a scan in an argument: the bytes seen encode `value`, and `left` more are needed
+-- The stage of a scan in an argument: the bytes seen of it encode `value`, and `left` more are
+-- needed. If `left` is 0, the head is whole.
 abbrev pub in_argument : ℕ → ℕ → ℕ → HeadStage
 in_argument major left value =
     if nat_lt 0 left then Argument major left value
@@ -52,10 +53,10 @@ head_stage_fits count Simple = count == 1
 head_stage_fits count (WholeHead head) = nat_le count 9
 head_stage_fits count NoHead = nat_le count 9
 
--- The stage is that of a scan which has seen `count` bytes of a head. For all bytes `more` that
--- follow, the stage and `more` determine `reading more`, the outcome of reading a head from all
--- bytes: a whole head, an ill-formed one, or one that the bytes cut short.
-pub record IsStageOfHead (count : ℕ) (stage : HeadStage)
+-- A scan that has seen `count` bytes of a head may be at this stage. `reading more` is what these
+-- bytes and then `more` begin with: a whole head, an ill-formed one, or one that is cut short. The
+-- stage and `more` determine it.
+pub record IsStageInHead (count : ℕ) (stage : HeadStage)
     (reading : List ℕ → HeadFront) : Type 0 where
   pub fits : IsTrue (head_stage_fits count stage)
   pub reads : (more : List ℕ) → reading more ≡ front_from count stage more

@@ -1,7 +1,7 @@
 //! The check values of bundles (RFC 9171 section 4.2.1).
 ghost use Rattle.std.specs.Prelude.{◌≡◌, ℕ, ◌∷◌, [], ◌++◌, List};
 ghost use Rattle.link_cbor.specs.Crc.{all_ones, crc};
-ghost use Rattle.link_cbor.specs.CrcTables.{AreTables};
+ghost use Rattle.link_cbor.specs.CrcTables.{AreCrcTables};
 
 mod crc16;
 mod crc32;
@@ -33,7 +33,7 @@ impl CheckKind {
     /// The look-up tables for a register of this kind.
     #[inline(always)]
     fn tables(self) -> &'static Tables
-        ensures { AreTables self result.now }
+        ensures { AreCrcTables self result.now }
     {
         match self {
             CheckKind::Crc16 => &crc16::TABLES,
@@ -52,13 +52,13 @@ pub struct Check {
 }
 
 impl Check {
-    ghost use Rattle.link_cbor.specs.Pushed.{HasPushed};
+    ghost use Rattle.link_cbor.specs.Pushed.{IsCheckAt};
     ghost use Rattle.link_cbor.specs.declared.check.CheckKind.{CheckKind};
 
     /// A check to which no byte was pushed.
     #[tactic(auto, unfolding(crate::specs::Crc::register_after, crate::specs::Crc::all_bits))]
     pub fn new(kind: CheckKind) -> Check
-        ensures { HasPushed kind result [] }
+        ensures { IsCheckAt kind result [] }
     {
         Check {
             kind,
@@ -69,7 +69,7 @@ impl Check {
     /// Pushes one byte.
     pub fn push(&mut self, byte: u8)
         ensures { (kind : CheckKind) (before : List ℕ)
-            → HasPushed kind self.old before → HasPushed kind self.new (before ++ byte ∷ []) }
+            → IsCheckAt kind self.old before → IsCheckAt kind self.new (before ++ byte ∷ []) }
     {
         self.register = register_after(self.kind.tables(), self.register, byte);
     }
@@ -77,7 +77,7 @@ impl Check {
     /// Pushes the bytes of the slice, in order.
     pub fn push_slice(&mut self, bytes: &[u8])
         ensures { (kind : CheckKind) (before : List ℕ)
-            → HasPushed kind self.old before → HasPushed kind self.new (before ++ bytes.now) }
+            → IsCheckAt kind self.old before → IsCheckAt kind self.new (before ++ bytes.now) }
     {
         let (blocks, rest) = bytes.as_chunks();
         self.register = register_after_blocks(self.kind.tables(), self.register, blocks);
@@ -91,7 +91,7 @@ impl Check {
     /// For CRC-16/X-25 it is in the low 16 bits.
     #[tactic(auto, unfolding(crate::specs::Crc::crc))]
     pub fn value(&self) -> u32
-        ensures { (kind : CheckKind) (bytes : List ℕ) → HasPushed kind self.now bytes
+        ensures { (kind : CheckKind) (bytes : List ℕ) → IsCheckAt kind self.now bytes
             → result ≡ crc kind bytes }
     {
         self.register ^ self.kind.all_ones()

@@ -65,6 +65,9 @@ impl Head {
     }
 
     /// Reads a head whose argument is the first `size` bytes of `rest`.
+    ///
+    /// Returns `None` if `rest` is shorter, or if the head is a simple value below 32 in two bytes,
+    /// which is ill-formed. The returned length includes the head's first byte.
     #[tactic(auto, using(crate::proofs::HeadLaws::argument), unfolding(crate::specs::Head::argument_front, crate::specs::Head::with_argument))]
     fn with_argument(major: u8, size: usize, rest: &[u8]) -> Option<(Head, usize)>
         requires low { 1 ≤ size }

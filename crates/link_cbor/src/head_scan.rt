@@ -26,9 +26,9 @@ const LEAST_IN_NEXT_BYTE: u8 = 32;
 
 impl HeadStage {
     ghost use Rattle.link_cbor.specs.Head.{head_front, no_argument};
-    ghost use Rattle.link_cbor.specs.Stage.{stage_step, in_argument, IsStageOfHead};
+    ghost use Rattle.link_cbor.specs.Stage.{stage_step, in_argument, IsStageInHead};
 
-    /// The state of the head after the bytes seen.
+    /// What a caller sees at this stage: a whole head, a bad one, or that more bytes are needed.
     fn outcome(self) -> HeadStep
         ensures { result ≡ stage_step self }
     {
@@ -44,7 +44,7 @@ impl HeadStage {
     /// The top three bits are the major type, and the low five bits are the additional information.
     #[tactic(auto, using(crate::proofs::Fronts::first_byte), unfolding(crate::specs::Head::front_by, crate::specs::Stage::front_from, crate::specs::Stage::head_stage_fits))]
     fn begin(first: u8) -> HeadStage
-        ensures { IsStageOfHead 1 result (λ more. head_front (first ∷ more)) }
+        ensures { IsStageInHead 1 result (λ more. head_front (first ∷ more)) }
     {
         let major = first >> 5;
         let information = first & 0x1f;
@@ -64,7 +64,9 @@ impl HeadStage {
         }
     }
 
-    /// The stage in an argument: its bytes seen encode `value`, and `left` more are needed.
+    /// The stage in an argument: the bytes seen of it encode `value`, and `left` more are needed.
+    ///
+    /// If `left` is 0, the head is whole.
     #[inline(always)]
     fn in_argument(major: u8, left: u8, value: u64) -> HeadStage
         ensures { result ≡ in_argument major left value }
@@ -82,7 +84,7 @@ impl HeadStage {
     /// ill-formed.
     #[tactic(auto, unfolding(crate::specs::Head::no_argument, crate::specs::Stage::front_from, crate::specs::Stage::head_stage_fits))]
     fn without_argument(major: u8) -> HeadStage
-        ensures { IsStageOfHead 1 result (λ _. no_argument major) }
+        ensures { IsStageInHead 1 result (λ _. no_argument major) }
     {
         if major < 2 || major == 6 {
             HeadStage::IllFormed
@@ -106,7 +108,7 @@ pub struct HeadScan {
 impl HeadScan {
     ghost use Rattle.link_cbor.specs.Head.{head_front, step_of, front_by_step};
     ghost use Rattle.link_cbor.specs.HeadScan.{HasScannedHead, head_scan_size, may_scan_head};
-    ghost use Rattle.link_cbor.specs.Stage.{front_from, IsStageOfHead};
+    ghost use Rattle.link_cbor.specs.Stage.{front_from, IsStageInHead};
     ghost use Rattle.link_cbor.specs.declared.head.HeadStep.TheVariants.{More};
 
     /// A scan that has seen no byte.
@@ -136,7 +138,7 @@ impl HeadScan {
     #[tactic(auto, unfolding(crate::specs::Head::argument_front, crate::specs::Head::with_argument, crate::specs::Head::big_endian, crate::specs::Stage::front_from, crate::specs::Stage::head_stage_fits))]
     fn next_stage(&self, byte: u8) -> HeadStage
         requires { IsTrue (may_scan_head self.now) }
-        ensures { IsStageOfHead (self.now.count + 1) result
+        ensures { IsStageInHead (self.now.count + 1) result
             (λ more. front_from self.now.count self.now.stage (byte ∷ more)) }
     {
         match self.stage {

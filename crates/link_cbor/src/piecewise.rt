@@ -1,7 +1,7 @@
 //! The trait of scans that consume bytes one at a time or in slices of any size.
 ghost use Rattle.std.specs.Prelude.{◌≡◌, ℕ, ◌+◌, ◌-◌, ◌^◌, ◌<◌, ◌≤◌, Bool, List, ◌∷◌, [], ◌++◌, length, IsTrue};
 ghost use Rattle.std.specs.Bool.{OnTrue};
-ghost use Rattle.link_cbor.specs.Pieces.{taken, PiecesAreTakenAsOne, TakenIsShortest};
+ghost use Rattle.link_cbor.specs.Pieces.{taken, PiecesAreTakenAsOne, TakenIsShortestPrefix};
 ghost use Rattle.link_cbor.specs.PieceLaws.{joins_pieces, takes_shortest};
 
 /// Consumes bytes one at a time or in slices of any size, until it needs no more.
@@ -43,7 +43,7 @@ pub trait Piecewise {
         ensures seen { (seen : List ℕ) → has_seen self.old seen
             → has_seen self.new (seen ++ byte ∷ []) };
 
-    /// Consumes bytes of the slice, in order, while more are needed, and returns how many.
+    /// Consumes bytes of the slice, in order, while more are needed. Returns how many it consumed.
     fn feed(&mut self, bytes: &[u8]) -> usize
         requires room { size self.old + length bytes.now ≤ 2 ^ 63 - 1 }
         ensures within { result ≤ length bytes.now }
@@ -66,5 +66,5 @@ pub trait Piecewise {
     ghost pieces: { PiecesAreTakenAsOne goes } = { joins_pieces goes };
 
     // the bytes consumed are the shortest prefix after which no more are needed, or the whole slice
-    ghost shortest: { TakenIsShortest goes } = { takes_shortest goes };
+    ghost shortest: { TakenIsShortestPrefix goes } = { takes_shortest goes };
 }

@@ -28,7 +28,7 @@ no_block =
       data_seen = 0;
     }
 
--- A canonical block as numbers. `seen` is how many bytes of its data have come. Its length is 0 if
+-- A canonical block as numbers. `seen` is how many bytes of its data have come. `length` is 0 if
 -- the block is not whole.
 abbrev pub canonical_shown : CanonicalBlock → (seen : ℕ) → BlockNumbers
 canonical_shown block seen =
@@ -59,7 +59,7 @@ block_shown (PrimaryOf primary check end) =
 block_shown (CanonicalOf block) = canonical_shown block block.data_length
 
 -- The numbers of the block in whose data or check field the first `count` bytes of a bundle end, or
--- of no block. How many bytes of the data have come follows from `count`.
+-- of no block. `data_seen` is how many of these bytes are data of the block.
 abbrev pub cut_shown : (count : ℕ) → Option CanonicalBlock → BlockNumbers
 cut_shown count None = no_block
 cut_shown count (Some block) =

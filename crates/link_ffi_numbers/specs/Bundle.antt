@@ -8,7 +8,7 @@ use Rattle.link_bundle_types.specs.declared.fault.State.TheVariants.{Going, Ende
 use Rattle.link_bundle_types.specs.declared.info.BundleInfo.{BundleInfo}
 use Rattle.link_bundle_blocks.specs.Bundle.{verdict, payload_seen, state_of}
 use Rattle.link_bundle_heads.specs.Rows.{is_fragment}
-use Rattle.link_bundle_blocks.specs.Primary.{PrimaryFields}
+use Rattle.link_bundle_blocks.specs.Primary.{AcceptedPrimaryFields}
 use Rattle.link_ffi_numbers.specs.Fault.{no_fault, bundle_fault}
 use Rattle.link_ffi_numbers.specs.declared.{fault.Fault.Fault, bundle.Bundle.Bundle}
 use Rattle.link_ffi_numbers.specs.declared.bundle.{EidNumbers.EidNumbers, Verdict.Verdict}
@@ -70,7 +70,7 @@ name_or_none None = []
 name_or_none (Some eid) = name_of eid
 
 -- The endpoint ID with these numbers, or `None` if no kind of endpoint ID has them. The name is
--- read only for kind 2, a name of dtn: its length is as the numbers say, and at most 1,024.
+-- read only for kind 2, a name of dtn. Its length must be `name_length`, and at most 1,024.
 abbrev pub eid_by : EidNumbers → List ℕ → Option Eid
 eid_by eid name =
     if eid.kind == 1 then Some DtnNone
@@ -87,7 +87,7 @@ viewed_option (Some view) = Some (viewed_eid view)
 
 -- Bytes that are no good bundle, as numbers: the fields of their primary block up to the first
 -- fault. Each field after the fault is 0.
-abbrev pub primary_shown : Verdict → PrimaryFields → Bundle
+abbrev pub primary_shown : Verdict → AcceptedPrimaryFields → Bundle
 primary_shown verdict primary =
     record {
       verdict = verdict;
@@ -113,7 +113,7 @@ fragment_shown None = (0, (0, 0))
 fragment_shown (Some fragment) = (1, fragment)
 
 -- a good bundle as numbers
-abbrev pub bundle_shown : Verdict → PrimaryFields → BundleInfo → Bundle
+abbrev pub bundle_shown : Verdict → AcceptedPrimaryFields → BundleInfo → Bundle
 bundle_shown verdict primary info =
     record {
       verdict = verdict;

@@ -43,7 +43,8 @@ answer_by code =
     else if code == 74 then Some answer.EndTooEarly
     else None
 
--- the fault of a bundle with this code, or `None`; `WrongKind` for 105, which three faults share
+-- The fault of a bundle with this code, or `None`. Three faults share the code 105, which gives
+-- `WrongKind`.
 abbrev pub bundle_by : ℕ → Option BundleFault
 bundle_by code =
     if code == 101 then Some Cut
@@ -65,7 +66,8 @@ bundle_by code =
     else if code == 117 then Some NoPayloadLast
     else None
 
--- the fault that has this code and this number, or `None` if no fault has them
+-- The fault that has this code and this number, or `None` if no fault has them. Only codes 3 to 6
+-- look at the number.
 abbrev pub named_by : ℕ → ℕ → Option Named
 named_by code number =
     if nat_lt code 51 then option_map named.Wire (wire_by code number)

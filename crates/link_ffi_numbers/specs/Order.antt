@@ -85,7 +85,7 @@ pub record IsOrderAt (order : Order) (before : List Message) : Type 0 where
   pub transfer : transfer_by order.is_open order.transfer ≡ open_of before
   pub is_bit : order.is_open ≤ 1
 
--- the kind and the flags are those of a message, and each field that may only be 0 or 1 is 0 or 1
+-- whether the kind is 1 to 7, the flags fit in one byte, and each bit of `order` is 0 or 1
 abbrev pub is_in_range : Order → numbers.Message → Bool
 is_in_range order it =
     nat_le 1 it.kind && (nat_le it.kind 7 && (nat_le it.flags 255
@@ -104,7 +104,7 @@ abbrev pub effect_shown : Option effect.Turn → Turn
 effect_shown (Some turn) = turn_shown turn
 effect_shown None = record no_turn { turn = 3 }
 
--- the code of the fault of a message that was taken, or 0, and the status
+-- the code of a fault of the order and TCPCLKIT_FAULT, or 0 and TCPCLKIT_OK if there is no fault
 abbrev pub fault_shown : Option OrderFault → ℕ × ℕ
 fault_shown None = (0, 0)
 fault_shown (Some fault) = (order_code fault, 4)

@@ -124,8 +124,8 @@ message_shown size offset found =
 abbrev pub data_status : ℕ → MessageAt → ℕ
 data_status size found = if nat_le (size_of found) (size - found.end) then 0 else 3
 
--- the numbers are those of the message that the reading `part` has, and its parts lie where the
--- numbers say
+-- `part` is the message that was read. The numbers describe it, and its node ID, its items and its
+-- data lie where the numbers say.
 pub record DescribesMessage (bytes : List ℕ) (offset : ℕ) (part : Part read.Message)
     (answer : Message) (status : ℕ) : Type 0 where
   pub found : MessageAt
@@ -141,7 +141,8 @@ pub record ReturnsMessage (bytes : List ℕ) (offset : ℕ) (part : Part read.Me
   pub fault : (fault : WireFault) → part ≡ Err fault
       → (status ≡ wire_status fault) × (answer ≡ no_message (wire_fault fault offset))
 
--- which list the extension items of a message form: that of a SESS_INIT, or that of a segment
+-- which list the extension items of a message form: the list of a SESS_INIT (kind 7), or the list
+-- of a segment
 abbrev pub list_of : Message → ListOf
 list_of it = if it.kind == 7 then Session else Transfer
 
@@ -149,7 +150,8 @@ list_of it = if it.kind == 7 then Session else Transfer
 abbrev pub items_end : Message → ℕ
 items_end it = it.items_offset + it.items_length
 
--- Among `size` bytes, the message has a list of items, and the offset is in the list or at its end.
+-- Whether the message has a list of items among `size` bytes, and the offset is in the list or at
+-- its end. Only a SESS_INIT (kind 7) and a segment (kind 1) have a list.
 abbrev pub has_list_at : (size : ℕ) → Message → (offset : ℕ) → Bool
 has_list_at size it offset =
     (it.kind == 7 || it.kind == 1) && (nat_le it.items_length 65536
@@ -189,12 +191,13 @@ item_shown found =
       next = found.value + found.item.length;
     }
 
--- The reading of the extension item that begins some bytes, in a list of which `left` bytes remain.
--- Its value is the total of a Transfer Length item, or `None` for any other item.
+-- The reading of the extension item at the start of `bytes`. Its list ends after `left` bytes. The
+-- value read is the total of a Transfer Length item, or `None` for any other item.
 abbrev pub item_part : ListOf → ℕ → List ℕ → Part (Option ℕ)
 item_part owner left bytes = item_head_at left bytes >>= λ (head, rest). total_at owner head.kind head.length rest
 
--- the numbers are those of the item, and its value lies where they say
+-- The numbers describe the item at `offset`, and its value lies where they say. The list of the
+-- item has `left` bytes from there on.
 pub record DescribesItem (owner : ListOf) (bytes : List ℕ) (offset left : ℕ) (answer : Item)
     (status : ℕ) : Type 0 where
   pub found : ItemAt
@@ -202,7 +205,8 @@ pub record DescribesItem (owner : ListOf) (bytes : List ℕ) (offset left : ℕ)
   pub numbers : answer ≡ item_shown found
   pub gives : status ≡ 0
 
--- `answer` and `status` are what a call returns for this reading of the item at the offset
+-- `answer` and `status` are what a call returns for this reading of the item at `offset`. The list
+-- of the item has `left` bytes from there on.
 pub record ReturnsItem (owner : ListOf) (bytes : List ℕ) (offset left : ℕ)
     (part : Part (Option ℕ)) (answer : Item) (status : ℕ) : Type 0 where
   pub whole : (total : Option ℕ) (rest : List ℕ) → part ≡ Ok (total, rest)

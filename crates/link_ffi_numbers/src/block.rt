@@ -107,7 +107,8 @@ pub fn block_numbers(block: Option<BlockView<'_>>) -> BlockNumbers
     }
 }
 
-/// The numbers of the block, if any, in whose data or check field the first `count` bytes end.
+/// The numbers of the block in whose data or check field the first `count` bytes of a bundle end,
+/// or of no block. `data_seen` is how many of these bytes are data of the block.
 pub fn cut_numbers(count: u64, block: Option<CanonicalBlock>) -> BlockNumbers
     ensures { result ≡ cut_shown count block }
 {

@@ -3,7 +3,7 @@
 ghost use Rattle.std.specs.Prelude.{◌≡◌, min, option_map, IfSome};
 ghost use Rattle.link_bundle_types.specs.BundleView.{viewed_info, viewed_verdict};
 ghost use Rattle.link_bundle_types.specs.EidView.{viewed_eid};
-ghost use Rattle.link_bundle_types.specs.ShortNames.{IsShort};
+ghost use Rattle.link_bundle_types.specs.ShortNames.{HasNoLongName};
 ghost use Rattle.link_bundle_blocks.specs.PrimaryView.{viewed_fields};
 ghost use Rattle.link_ffi_numbers.specs.Bundle.{state_status, fault_of, with_span, no_eid, eid_shown, eid_or_none, name_of, name_or_none, eid_by, viewed_option, primary_shown, bundle_shown};
 
@@ -185,11 +185,13 @@ impl EidNumbers {
     }
 }
 
-/// The endpoint ID with these numbers, or `None` if no kind of endpoint ID has them. `name` is read
-/// only for kind 2, a name of dtn.
+/// The endpoint ID with these numbers, or `None` if no kind of endpoint ID has them.
+///
+/// `name` is read only for kind 2, a name of dtn. Its length must be `name_length`, and at most
+/// 1,024.
 pub fn eid_by<'a>(eid: &EidNumbers, name: &'a [u8]) -> Option<EidView<'a>>
     ensures view { viewed_option result ≡ eid_by eid.now name.now }
-    ensures short { IfSome result (λ view. IsShort (viewed_eid view)) }
+    ensures short { IfSome result (λ view. HasNoLongName (viewed_eid view)) }
 {
     match eid.kind {
         1 => Some(EidView::DtnNone),
@@ -212,7 +214,8 @@ pub fn name_of<'a>(eid: &EidView<'a>) -> &'a [u8]
     }
 }
 
-/// The name of an endpoint ID, if there is one; else it is empty.
+/// The name of an endpoint ID. It is empty if the endpoint ID has no name, or if there is no
+/// endpoint ID.
 pub fn name_or_none<'a>(eid: &Option<EidView<'a>>) -> &'a [u8]
     ensures { result.now ≡ name_or_none (option_map viewed_eid eid.now) }
 {

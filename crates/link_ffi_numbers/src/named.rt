@@ -65,7 +65,8 @@ fn answer_by(code: u64) -> Option<AnswerFault>
     }
 }
 
-/// The fault of a bundle with this code, or `None`: `WrongKind` for 105, which three faults share.
+/// The fault of a bundle with this code, or `None`. Three faults share the code 105, which gives
+/// `WrongKind`.
 fn bundle_by(code: u64) -> Option<BundleFault>
     ensures { result ≡ bundle_by code }
 {
@@ -91,7 +92,8 @@ fn bundle_by(code: u64) -> Option<BundleFault>
     }
 }
 
-/// The fault that has this code and this number, or `None` if no fault has them.
+/// The fault that has this code and this number, or `None` if no fault has them. Only codes 3 to 6
+/// look at the number.
 pub fn named_by(code: u64, number: u64) -> Option<Named>
     ensures { result ≡ named_by code number }
 {

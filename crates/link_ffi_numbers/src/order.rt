@@ -195,7 +195,7 @@ fn effect_shown(effect: Option<Effect>) -> Turn
     }
 }
 
-/// The code of a fault of the order, or 0, and the status: `FAULT`, or `OK`.
+/// The code of a fault of the order and `FAULT`, or 0 and `OK` if there is no fault.
 fn fault_shown(fault: Option<OrderFault>) -> (u64, u32)
     ensures { result ≡ fault_shown fault }
 {
@@ -226,7 +226,7 @@ pub fn take(order: &mut Order, event: Event, answer: &mut Turn) -> u32
     status
 }
 
-/// Whether the kind and the flags are those of a message, and the bits of `order` are 0 or 1.
+/// Whether the kind is 1 to 7, the flags fit in one byte, and each bit of `order` is 0 or 1.
 pub fn is_in_range(order: &Order, message: &recording::Message) -> bool
     ensures { result ≡ is_in_range order.now message.now }
 {

@@ -223,7 +223,7 @@ pub fn shown(found: &MessageAt, size: usize, offset: u64) -> (Message, u32)
 }
 
 /// Whether the message has a list of extension items in these bytes, and the offset is in the list
-/// or at its end.
+/// or at its end. Only a SESS_INIT (kind 7) and a segment (kind 1) have a list.
 pub fn has_list_at(bytes: &[u8], message: &Message, offset: u64) -> bool
     ensures { result ≡ has_list_at (length bytes.now) message.now offset }
 {

@@ -1,6 +1,6 @@
 -- A run over slices: it never fails, and what it has written is in its slices.
 use Rattle.std.proofs.Common.{◌≡◌, ◌≤◌, ◌⊎◌, ◌==◌, Bool, if◌then◌else◌, ℕ, true, false, List, [], ◌++◌, length, Option, Some, None, Result, Ok, Err, refl, ap, sym, ◌∙◌, inl, inr, ⊎_elim, append-nil, append_assoc, length-append, arith}
-use Rattle.link_run.specs.Run.{Tool, Texts, Looks, Devices, HasWrittenAtEnd, FinishedRun, EndedRun}
+use Rattle.link_run.specs.Run.{Tool, Texts, Looks, Devices, HasTakenAndWrittenAtEnd, FinishedRun, AfterRunAnswer}
 use Rattle.link_run.specs.WholeRun.{devices_of}
 use Rattle.link_run.specs.declared.run.{RunEnd.RunEnd, Status.Status}
 use Rattle.link_tools.specs.Options.{AfterTool}
@@ -9,7 +9,7 @@ use Rattle.link_wire.specs.declared.IoFault.TheVariants.{Read, InputTooLong, Wri
 use Rattle.link_ffi_tools.specs.Options.{blocks_numbers, blocks_in_range, blocks_in, check_numbers, check_in_range, check_in}
 use Rattle.link_ffi_tools.specs.Reading.{reading_tool}
 use Rattle.link_ffi_tools.specs.Tool.{Slices, texts_status, blocks_tool_of, check_tool_of}
-use Rattle.link_ffi_tools.specs.Run.{AfterSliceRun, IsWrittenOver, ReturnsTool}
+use Rattle.link_ffi_tools.specs.Run.{AfterSliceRun, IsWrittenOver, ReturnsTextsOrNothing}
 use Rattle.link_ffi_tools.specs.declared.{reading.Reading.Reading}
 use Rattle.link_ffi_tools.specs.declared.running.{Run.Run, Wants.Wants, Written.Written}
 use Rattle.link_ffi_tools.proofs.Overlays.{holds_front, keeps_rest, overlaid_nothing}
@@ -40,19 +40,19 @@ module _ {R W E : Type 0} (look : Looks R W E)
     (sound_report : (look.report end.report).failed ≡ false)
     (short : length bytes ≤ longest_input) where
   module _ (tool : Tool) where
-    bytes_are : (given : List ℕ) (texts : Texts) → HasWrittenAtEnd look start (devices_of end) given texts
+    bytes_are : (given : List ℕ) (texts : Texts) → HasTakenAndWrittenAtEnd look start (devices_of end) given texts
         → bytes ≡ given ++ left
     bytes_are given texts back = rw (full, rest) at back.takes
 
     finished : (given : List ℕ) (status : Status) → FinishedRun look tool start (devices_of end) given status
         → RanTool (Some tool) bytes output_start output_end report_start report_end (Ok status)
     finished given status run =
-        let parts = bytes_are (given ++ run.unread) (tool.whole given).texts run.written in
+        let parts = bytes_are (given ++ run.ungiven) (tool.whole given).texts run.written in
         let same : tool.whole bytes ≡ tool.whole given = ⊎_elim
         (λ all. let none : left ≡ [] = rw rest at all.1 in
         rw (parts, none, all.0) (simp append-nil))
         (λ (stays : (more : List ℕ) → tool.whole (given ++ more) ≡ tool.whole given).
-        rw (parts, append_assoc given run.unread left) (stays (run.unread ++ left)))
+        rw (parts, append_assoc given run.ungiven left) (stays (run.ungiven ++ left)))
         run.settled in
         let output : output_end ≡ output_start ++ (tool.whole given).texts.output =
         rw (had_output, has_output) at run.written.writes in
@@ -67,7 +67,7 @@ module _ {R W E : Type 0} (look : Looks R W E)
         }
 
     no_fault : (fault : IoFault) (given : List ℕ)
-        → EndedRun look tool start (devices_of end) given (Err fault) → ⊥
+        → AfterRunAnswer look tool start (devices_of end) given (Err fault) → ⊥
     no_fault Read given run = cc (sound_reader, run.failed)
     no_fault InputTooLong given run =
         let parts = bytes_are (given ++ run.past) (tool.so_far given) run.written in
@@ -77,7 +77,7 @@ module _ {R W E : Type 0} (look : Looks R W E)
     no_fault Memory given run = absurd run
 
     ran : (answer : Result Status IoFault) (given : List ℕ)
-        → EndedRun look tool start (devices_of end) given answer
+        → AfterRunAnswer look tool start (devices_of end) given answer
         → RanTool (Some tool) bytes output_start output_end report_start report_end answer
     ran (Ok status) given run = finished given status run
     ran (Err fault) given run = absurd (no_fault fault given run)
@@ -126,7 +126,7 @@ module _ (wants : Wants) (old new : Slices) (output_text report_text : List ℕ)
       (gives : code ≡ texts_status wants output.fits report.fits) where
     pub ok_returned : (tool : Option Tool) (bytes : List ℕ)
         → AfterSliceRun tool bytes output_text report_text (Ok status)
-        → ReturnsTool tool bytes wants old new run code
+        → ReturnsTextsOrNothing tool bytes wants old new run code
     ok_returned None bytes wrote = absurd wrote
     ok_returned (Some tool) bytes wrote = record {
       output_front = rw (← wrote.output_is, left_output.slice_is) (holds_front _ output_text);
@@ -145,7 +145,7 @@ module _ (wants : Wants) (old new : Slices) (output_text report_text : List ℕ)
       (gives : code ≡ 8) where
     pub err_returned : (tool : Option Tool) (bytes : List ℕ)
         → AfterSliceRun tool bytes output_text report_text (Err fault)
-        → ReturnsTool tool bytes wants old new run code
+        → ReturnsTextsOrNothing tool bytes wants old new run code
     err_returned (Some tool) bytes wrote = absurd wrote
     err_returned None bytes wrote = record {
       no_output = rw (left_output.slice_is, wrote.no_output) (overlaid_nothing old.output);
@@ -182,6 +182,6 @@ check_is words reading is =
 
 -- a run returns no TCPCLKIT_RANGE
 pub in_range : (tool : Option Tool) (bytes : List ℕ) (wants : Wants) (old new : Slices) (run : Run)
-    (status : ℕ) → ReturnsTool tool bytes wants old new run status → status ≡ 6 → ⊥
+    (status : ℕ) → ReturnsTextsOrNothing tool bytes wants old new run status → status ≡ 6 → ⊥
 in_range (Some tool) bytes wants old new run status gave six = grind (arith, gave.gives, six)
 in_range None bytes wants old new run status gave six = omega (arith, gave.gives, six)

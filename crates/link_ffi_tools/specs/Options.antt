@@ -18,7 +18,7 @@ use Rattle.link_ffi_tools.specs.declared.reading.Reading.TheVariants as reading
 abbrev pub has_nonzero : List ℕ → Bool
 has_nonzero words = list_any (λ word. nat_lt 0 word) words
 
--- the number of an option that may be unset, or `None` unless `is_set`, a word of its own, is 1
+-- the number of an option that may be unset, or `None` if `is_set` is not 1
 abbrev pub number_if : (is_set number : ℕ) → Option ℕ
 number_if is_set number = if is_set == 1 then Some number else None
 
@@ -95,7 +95,7 @@ block_options_of numbers =
       keep_going = numbers.keep_going == 1;
     }
 
--- the tool `blocks` with these options: of bundles with `bundles`, or else of a recording
+-- The tool `blocks` with these options. It reads bundles if `bundles` is 1, and else a recording.
 abbrev pub blocks_of : BlocksNumbers → Reading
 blocks_of numbers =
     if numbers.bundles == 1 then reading.BundleBlocks else reading.Blocks (block_options_of numbers)
@@ -143,7 +143,7 @@ check_options_of numbers =
       };
     }
 
--- the tool `check` with these options: of bundles with `bundles`, or else of a recording
+-- The tool `check` with these options. It reads bundles if `bundles` is 1, and else a recording.
 abbrev pub check_of : CheckNumbers → Reading
 check_of numbers =
     if numbers.bundles == 1 then reading.BundleCheck (numbers.must == 1)
@@ -181,7 +181,7 @@ pack_in_range words size =
     pack_numbers_fit (pack_numbers words) size && not (has_nonzero (drop 7 words))
 
 -- the options have these numbers and this node ID
-pub record HasOptions (options : PackOptions) (numbers : PackNumbers)
+pub record IsPackOptionsByNumbers (options : PackOptions) (numbers : PackNumbers)
     (node : List ℕ) : Type 0 where
   pub node_id : options.node.items ≡ node
   pub keepalive : options.keepalive ≡ numbers.keepalive

@@ -21,7 +21,7 @@ pub record FinishedTexts (whole : Outcome) (output report : List ℕ) (status : 
   pub ends : status.0 ≡ whole.status
 
 -- no text was written, since the request for memory was refused
-pub record RefusedTexts (output report : List ℕ) (fault : IoFault) : Type 0 where
+pub record RefusedMemory (output report : List ℕ) (fault : IoFault) : Type 0 where
   pub no_output : output ≡ []
   pub no_report : report ≡ []
   pub lacks : fault ≡ io.Memory
@@ -34,17 +34,18 @@ AfterSliceRun (Some tool) bytes output report (Ok status) =
     FinishedTexts (tool.whole bytes) output report status
 AfterSliceRun (Some tool) bytes output report (Err fault) = ⊥
 AfterSliceRun None bytes output report (Ok status) = ⊥
-AfterSliceRun None bytes output report (Err fault) = RefusedTexts output report fault
+AfterSliceRun None bytes output report (Err fault) = RefusedMemory output report fault
 
--- The slice had the bytes `before`, and now has the bytes `slice`: the text was written to its
--- start, as far as it fits. `written` has the length of the whole text, up to 2^64 - 1, and whether
--- all of it fits.
+-- The text was written to the start of a slice, as far as it fits. The slice contained `before`,
+-- and now it contains `slice`. `written` says how long the whole text is, up to 2^64 - 1, and
+-- whether all of it fits.
 pub record IsWrittenOver (text before slice : List ℕ) (written : Written) : Type 0 where
   pub slice_is : slice ≡ overlaid before text
   pub count : written.count ≡ min (length text) (2 ^ 64 - 1)
   pub fits : written.fits ≡ nat_le (length text) (length slice)
 
--- the slices have the texts that a run of the tool has written
+-- A run of the tool over `bytes` has written these two texts to the slices. `ended` contains its
+-- exit status or the refusal of memory, and what was written to each slice.
 pub record RunsIntoSlices (tool : Option Tool) (bytes : List ℕ) (old new : Slices)
     (ended : Ended) : Type 0 where
   pub output_text : List ℕ
@@ -56,7 +57,8 @@ pub record RunsIntoSlices (tool : Option Tool) (bytes : List ℕ) (old new : Sli
 -- ---- what a call returns
 
 -- what a run of the tool has returned; if the tool is `None`, its request for memory was refused
-abbrev pub ReturnsTool : Option Tool → List ℕ → Wants → (old new : Slices) → Run → ℕ → Type 0
-ReturnsTool (Some tool) bytes wants old new run status =
+abbrev pub ReturnsTextsOrNothing : Option Tool → List ℕ → Wants → (old new : Slices) → Run → ℕ
+    → Type 0
+ReturnsTextsOrNothing (Some tool) bytes wants old new run status =
     ReturnsTexts (tool.whole bytes) wants old new run status
-ReturnsTool None bytes wants old new run status = ReturnsNothing old new run status
+ReturnsTextsOrNothing None bytes wants old new run status = ReturnsNothing old new run status

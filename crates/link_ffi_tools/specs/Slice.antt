@@ -9,7 +9,8 @@ HoldsPrefix slice text = take (length text) slice ≡ take (length slice) text
 abbrev pub LeavesRest : (old new text : List ℕ) → Type 0
 LeavesRest old new text = drop (length text) new ≡ drop (length text) old
 
--- a slice that had these bytes, after as much of a text as fits was written to its start
+-- What a slice contains after the text was written to its start, as far as it fits. The slice had
+-- the bytes `before`.
 abbrev pub overlaid : (before text : List ℕ) → List ℕ
 overlaid before text = take (length before) text ++ drop (length text) before
 

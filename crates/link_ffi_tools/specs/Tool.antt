@@ -18,15 +18,16 @@ pub record Slices : Type 0 where
   pub output : List ℕ
   pub report : List ℕ
 
--- TCPCLKIT_OK if each text that is wanted has fit, or TCPCLKIT_TOO_SMALL
+-- TCPCLKIT_OK (0) if each wanted text fits, and else TCPCLKIT_TOO_SMALL (5). A text is wanted if
+-- its number in `wants` is not 0.
 abbrev pub texts_status : Wants → (output_fits report_fits : Bool) → ℕ
 texts_status wants output_fits report_fits =
     if (wants.output == 0 || output_fits) && (wants.report == 0 || report_fits) then 0 else 5
 
--- Each slice begins with its text, or has the text's first bytes if it is too small. The bytes
--- after the text are as they were. The lengths are those of the whole texts; they stop at the
--- greatest number of 64 bits. The exit status is that of the run. The status that is returned is
--- TCPCLKIT_OK or TCPCLKIT_TOO_SMALL.
+-- Each slice begins with its text in `whole`, or contains the text's first bytes if it is too
+-- small. The bytes after the text are as they were. `run` contains the lengths of the whole texts,
+-- up to 2^64 - 1, and the exit status of the run. The returned `status` is TCPCLKIT_OK or
+-- TCPCLKIT_TOO_SMALL.
 pub record ReturnsTextsBy (whole : Outcome) (wants : Wants)
     (old_output old_report output report : List ℕ)
     (run : Run)
@@ -42,12 +43,12 @@ pub record ReturnsTextsBy (whole : Outcome) (wants : Wants)
       (nat_le (length whole.texts.output) (length output))
       (nat_le (length whole.texts.report) (length report))
 
--- what a run has returned in its slices
+-- what a run with this outcome has returned, as `ReturnsTextsBy` says
 abbrev pub ReturnsTexts : Outcome → Wants → (old new : Slices) → Run → ℕ → Type 0
 ReturnsTexts whole wants old new run status =
     ReturnsTextsBy whole wants old.output old.report new.output new.report run status
 
--- TCPCLKIT_MEMORY: nothing was written, and the numbers are 0
+-- nothing was written, the numbers of `run` are 0, and TCPCLKIT_MEMORY (8) was returned
 pub record ReturnsNothing (old new : Slices) (run : Run) (status : ℕ) : Type 0 where
   pub no_output : new.output ≡ old.output
   pub no_report : new.report ≡ old.report
@@ -57,9 +58,10 @@ pub record ReturnsNothing (old new : Slices) (run : Run) (status : ℕ) : Type 0
 -- Below, `words` are the numbers of the caller's struct after `size`. Each is in its range, as by
 -- `unpack_in_range` of Options.
 
--- the recording was unpacked with these options
-abbrev pub ReturnsUnpacked : (words bytes : List ℕ) → Wants → (old new : Slices) → Run → ℕ → Type 0
-ReturnsUnpacked words bytes wants old new run status =
+-- what a run of `unpack` over these bytes, with these options, has returned
+abbrev pub ReturnsUnpackTexts : (words bytes : List ℕ) → Wants → (old new : Slices) → Run → ℕ
+    → Type 0
+ReturnsUnpackTexts words bytes wants old new run status =
     ReturnsTexts ((unpack_tool (wanted_of (unpack_numbers words))).whole bytes)
     wants old new run status
 
@@ -68,9 +70,10 @@ abbrev pub blocks_tool_of : BlocksNumbers → Tool
 blocks_tool_of numbers =
     if numbers.bundles == 1 then bundle_blocks_tool else blocks_tool (block_options_of numbers)
 
--- the blocks were shown with these options
-abbrev pub ReturnsBlocks : (words bytes : List ℕ) → Wants → (old new : Slices) → Run → ℕ → Type 0
-ReturnsBlocks words bytes wants old new run status =
+-- what a run of `blocks` over these bytes, with these options, has returned
+abbrev pub ReturnsBlocksTexts : (words bytes : List ℕ) → Wants → (old new : Slices) → Run → ℕ
+    → Type 0
+ReturnsBlocksTexts words bytes wants old new run status =
     ReturnsTexts ((blocks_tool_of (blocks_numbers words)).whole bytes) wants old new run status
 
 -- the tool that these options of `check` ask for
@@ -79,7 +82,8 @@ check_tool_of numbers =
     if numbers.bundles == 1 then bundle_check_tool (numbers.must == 1)
     else check_tool (check_options_of numbers)
 
--- the rules were judged with these options
-abbrev pub ReturnsRules : (words bytes : List ℕ) → Wants → (old new : Slices) → Run → ℕ → Type 0
-ReturnsRules words bytes wants old new run status =
+-- what a run of `check` over these bytes, with these options, has returned
+abbrev pub ReturnsCheckTexts : (words bytes : List ℕ) → Wants → (old new : Slices) → Run → ℕ
+    → Type 0
+ReturnsCheckTexts words bytes wants old new run status =
     ReturnsTexts ((check_tool_of (check_numbers words)).whole bytes) wants old new run status

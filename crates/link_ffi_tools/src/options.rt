@@ -1,7 +1,7 @@
 //! The options of the whole tools, as numbers.
 
 ghost use Rattle.std.specs.Prelude.{◌≡◌, true, List, length, drop, get_or};
-ghost use Rattle.link_ffi_tools.specs.Options.{has_nonzero, number_if, switch_fits, unpack_numbers, unpack_numbers_fit, wanted_of, wanted_in, blocks_numbers, blocks_numbers_fit, blocks_of, blocks_in, check_numbers, check_numbers_fit, check_options_of, check_of, check_in, pack_numbers, pack_numbers_fit, pack_in_range, HasOptions, more_numbers, more_numbers_fit, more_in_range};
+ghost use Rattle.link_ffi_tools.specs.Options.{has_nonzero, number_if, switch_fits, unpack_numbers, unpack_numbers_fit, wanted_of, wanted_in, blocks_numbers, blocks_numbers_fit, blocks_of, blocks_in, check_numbers, check_numbers_fit, check_options_of, check_of, check_in, pack_numbers, pack_numbers_fit, pack_in_range, IsPackOptionsByNumbers, more_numbers, more_numbers_fit, more_in_range};
 
 use crate::reading::Reading;
 use link_tool_option_types::{BlockOptions, CheckOptions, PackOptions, PeerLimits, Wanted};
@@ -248,7 +248,7 @@ fn check_numbers_fit(numbers: &CheckNumbers) -> bool
         && (numbers.bundles == 0 || numbers.has_peer_segment == 0 && numbers.has_peer_transfer == 0)
 }
 
-/// What these options of `check` judge of a recording.
+/// What `check` judges of a recording with these options.
 fn check_options_of(numbers: &CheckNumbers) -> CheckOptions
     ensures { result ≡ check_options_of numbers.now }
 {
@@ -322,7 +322,7 @@ pub fn pack_in_range(words: &[u64], node_length: usize) -> bool
 /// The `PackOptions` with these numbers and this node ID.
 pub fn packing_of(numbers: &PackNumbers, node: &[u8]) -> PackOptions
     requires { pack_numbers_fit numbers.now (length node.now) ≡ true }
-    ensures { HasOptions result numbers.now node.now }
+    ensures { IsPackOptionsByNumbers result numbers.now node.now }
 {
     let mut node_id = NodeId::new();
     node_id.try_extend_from_slice(node).unwrap();
@@ -351,6 +351,8 @@ pub fn more_numbers(words: &[u64]) -> MoreNumbers
 }
 
 /// Whether the options of `pack_more` are in their ranges, for an input of `size` bytes.
+///
+/// The input contains no more bundles than bytes, so no transfer ID exceeds `first + size`.
 fn more_numbers_fit(numbers: &MoreNumbers, size: usize) -> bool
     ensures { result ≡ more_numbers_fit numbers.now size }
 {

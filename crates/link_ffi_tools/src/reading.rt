@@ -34,7 +34,7 @@ impl SliceTool for Reading {
 
     ghost ready = { λ reading. ⊤ };
 
-    /// Runs the tool of this name.
+    /// Runs the tool that the variant names.
     fn run<'a, 'b, 'c>(
         self,
         reader: SliceReader<'a>,

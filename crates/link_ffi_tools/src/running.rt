@@ -4,7 +4,7 @@ ghost use Rattle.std.specs.Prelude.{◌≡◌, [], length, Option};
 ghost use Rattle.link_run.specs.Run.{Tool, devices, looks};
 ghost use Rattle.link_tools.specs.Options.{AfterTool};
 ghost use Rattle.link_ffi_tools.specs.Tool.{texts_status};
-ghost use Rattle.link_ffi_tools.specs.Run.{AfterSliceRun, IsWrittenOver, RunsIntoSlices, ReturnsTool};
+ghost use Rattle.link_ffi_tools.specs.Run.{AfterSliceRun, IsWrittenOver, RunsIntoSlices, ReturnsTextsOrNothing};
 
 use crate::device::{SliceReader, SliceWriter};
 use link_ffi_numbers::status::{MEMORY, OK, TOO_SMALL};
@@ -75,7 +75,7 @@ pub struct Ended {
     pub report: Written,
 }
 
-/// Runs the tool over the bytes to its end.
+/// Runs the tool over `bytes` until it ends, and returns the writers with its answer.
 fn run_between<'a, 'b, 'c, T: SliceTool>(
     tool: T,
     bytes: &'a [u8],
@@ -96,7 +96,7 @@ fn run_between<'a, 'b, 'c, T: SliceTool>(
 }
 
 /// Returns the writer, and leaves one without room in its place.
-fn taken<'a>(writer: &mut SliceWriter<'a>) -> SliceWriter<'a>
+fn moved_out<'a>(writer: &mut SliceWriter<'a>) -> SliceWriter<'a>
     ensures same_reference { result.room.ghost_name ≡ writer.old.room.ghost_name }
     ensures before { result.history.before ≡ writer.old.history.before }
     ensures text { result.history.text ≡ writer.old.history.text }
@@ -104,8 +104,8 @@ fn taken<'a>(writer: &mut SliceWriter<'a>) -> SliceWriter<'a>
     mem::replace(writer, SliceWriter::new(&mut []))
 }
 
-/// Runs the tool over the bytes to its end, into these writers.
-fn run_taken<'a, 'b, 'c, T: SliceTool>(
+/// Runs the tool over `bytes` until it ends. Its texts go to these writers.
+fn run_into_writers<'a, 'b, 'c, T: SliceTool>(
     tool: T,
     bytes: &'a [u8],
     output: &mut SliceWriter<'b>,
@@ -114,6 +114,7 @@ fn run_taken<'a, 'b, 'c, T: SliceTool>(
     requires ready { T.ready tool }
     requires no_output { output.old.history.text ≡ [] }
     requires no_report { report.old.history.text ≡ [] }
+    // Each writer still writes into the same slice, and records what it contained before the run.
     ensures output { output.new.room.ghost_name ≡ output.old.room.ghost_name }
     ensures output_before { output.new.history.before ≡ output.old.history.before }
     ensures report { report.new.room.ghost_name ≡ report.old.room.ghost_name }
@@ -121,7 +122,7 @@ fn run_taken<'a, 'b, 'c, T: SliceTool>(
     ensures run { AfterSliceRun (T.tool tool) bytes.now output.new.history.text
         report.new.history.text result }
 {
-    let end = run_between(tool, bytes, taken(output), taken(report));
+    let end = run_between(tool, bytes, moved_out(output), moved_out(report));
     *output = end.output;
     *report = end.report;
     end.answer
@@ -138,7 +139,7 @@ fn written_by(writer: &SliceWriter<'_>) -> Written
     }
 }
 
-/// Runs the tool over the bytes to its end, into these slices.
+/// Runs the tool over `bytes` until it ends. Its texts go to these slices, as far as they fit.
 fn run_whole<T: SliceTool>(tool: T, bytes: &[u8], output: &mut [u8], report: &mut [u8]) -> Ended
     requires { T.ready tool }
     ensures { RunsIntoSlices (T.tool tool) bytes.now
@@ -148,7 +149,7 @@ fn run_whole<T: SliceTool>(tool: T, bytes: &[u8], output: &mut [u8], report: &mu
 {
     let mut to_output = SliceWriter::new(output);
     let mut to_report = SliceWriter::new(report);
-    let answer = run_taken(tool, bytes, &mut to_output, &mut to_report);
+    let answer = run_into_writers(tool, bytes, &mut to_output, &mut to_report);
     Ended {
         answer,
         output: written_by(&to_output),
@@ -169,9 +170,11 @@ fn texts_status(wants: Wants, ended: &Ended) -> u32
     OK
 }
 
-/// Runs the tool over the bytes to its end, into these slices, and describes the run in `answer`.
-/// Returns `OK`, or `TOO_SMALL` if a wanted text does not fit in its slice, or `MEMORY` if the tool
-/// was refused its memory.
+/// Runs the tool over `bytes` until it ends, and describes the run in `answer`. Its texts go to
+/// these slices, as far as they fit.
+///
+/// Returns `OK`, or `TOO_SMALL` if a wanted text does not fit in its slice. If the tool was refused
+/// its memory, returns `MEMORY`, and the numbers in `answer` are 0.
 pub fn run_into<T: SliceTool>(
     tool: T,
     bytes: &[u8],
@@ -181,7 +184,7 @@ pub fn run_into<T: SliceTool>(
     answer: &mut Run,
 ) -> u32
     requires { T.ready tool }
-    ensures { ReturnsTool (T.tool tool) bytes.now wants
+    ensures { ReturnsTextsOrNothing (T.tool tool) bytes.now wants
         (record { output = output.old; report = report.old })
         (record { output = output.new; report = report.new })
         answer.new result }

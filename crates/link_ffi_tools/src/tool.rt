@@ -7,14 +7,17 @@
 ghost use Rattle.std.specs.Prelude.{◌≡◌, true, false};
 ghost use Rattle.link_tool_list.specs.Listing.{list_tool};
 ghost use Rattle.link_ffi_tools.specs.Options.{unpack_in_range, blocks_in_range, check_in_range};
-ghost use Rattle.link_ffi_tools.specs.Tool.{ReturnsTexts, ReturnsUnpacked, ReturnsBlocks, ReturnsRules};
+ghost use Rattle.link_ffi_tools.specs.Tool.{ReturnsTexts, ReturnsUnpackTexts, ReturnsBlocksTexts, ReturnsCheckTexts};
 
 use crate::options::{blocks_in, check_in, wanted_in};
 use crate::reading::Reading;
 use crate::running::{Run, Wants, run_into};
 use link_ffi_numbers::status::RANGE;
 
-/// Runs `list` over the bytes. Returns `OK`, or `TOO_SMALL` if a wanted text does not fit.
+/// Runs `list` over the bytes, and describes the run in `answer`.
+///
+/// Writes each text to the start of its slice, as far as it fits. Returns `OK`, or `TOO_SMALL` if a
+/// wanted text does not fit. A text is wanted if its number in `wants` is not 0.
 pub fn list_into(
     bytes: &[u8],
     wants: Wants,
@@ -30,10 +33,11 @@ pub fn list_into(
     run_into(Reading::List, bytes, wants, output, report, answer)
 }
 
-/// Runs `unpack` over the bytes.
+/// Runs `unpack` over the bytes, and describes the run in `answer`.
 ///
-/// Returns `OK`, or `TOO_SMALL` if a wanted text does not fit in its slice. If an option is out of
-/// range, writes nothing and returns `RANGE`.
+/// Writes each text to the start of its slice, as far as it fits. Returns `OK`, or `TOO_SMALL` if a
+/// wanted text does not fit. A text is wanted if its number in `wants` is not 0. If an option is
+/// out of range, writes nothing and returns `RANGE`, which is 6.
 pub fn unpack_into(
     bytes: &[u8],
     options: &[u64],
@@ -43,7 +47,8 @@ pub fn unpack_into(
     answer: &mut Run,
 ) -> u32
     ensures range { unpack_in_range options.now ≡ false → (result ≡ 6) × (answer.new ≡ answer.old) }
-    ensures run { unpack_in_range options.now ≡ true → ReturnsUnpacked options.now bytes.now wants
+    ensures run { unpack_in_range options.now ≡ true
+        → ReturnsUnpackTexts options.now bytes.now wants
         (record { output = output.old; report = report.old })
         (record { output = output.new; report = report.new })
         answer.new result }
@@ -62,10 +67,11 @@ pub fn unpack_into(
     )
 }
 
-/// Runs `blocks` over the bytes.
+/// Runs `blocks` over the bytes, and describes the run in `answer`.
 ///
-/// Returns `OK`, or `TOO_SMALL` if a wanted text does not fit in its slice. If an option is out of
-/// range, writes nothing and returns `RANGE`.
+/// Writes each text to the start of its slice, as far as it fits. Returns `OK`, or `TOO_SMALL` if a
+/// wanted text does not fit. A text is wanted if its number in `wants` is not 0. If an option is
+/// out of range, writes nothing and returns `RANGE`, which is 6.
 #[tactic(auto, using(crate::proofs::Runs::in_range))]
 pub fn blocks_into(
     bytes: &[u8],
@@ -76,7 +82,8 @@ pub fn blocks_into(
     answer: &mut Run,
 ) -> u32
     ensures range { blocks_in_range options.now ≡ false → (result ≡ 6) × (answer.new ≡ answer.old) }
-    ensures run { blocks_in_range options.now ≡ true → ReturnsBlocks options.now bytes.now wants
+    ensures run { blocks_in_range options.now ≡ true
+        → ReturnsBlocksTexts options.now bytes.now wants
         (record { output = output.old; report = report.old })
         (record { output = output.new; report = report.new })
         answer.new result }
@@ -88,10 +95,11 @@ pub fn blocks_into(
     run_into(reading, bytes, wants, output, report, answer)
 }
 
-/// Runs `check` over the bytes.
+/// Runs `check` over the bytes, and describes the run in `answer`.
 ///
-/// Returns `OK`, or `TOO_SMALL` if a wanted text does not fit in its slice. If an option is out of
-/// range, writes nothing and returns `RANGE`.
+/// Writes each text to the start of its slice, as far as it fits. Returns `OK`, or `TOO_SMALL` if a
+/// wanted text does not fit. A text is wanted if its number in `wants` is not 0. If an option is
+/// out of range, writes nothing and returns `RANGE`, which is 6.
 #[tactic(auto, using(crate::proofs::Runs::in_range))]
 pub fn check_into(
     bytes: &[u8],
@@ -102,7 +110,7 @@ pub fn check_into(
     answer: &mut Run,
 ) -> u32
     ensures range { check_in_range options.now ≡ false → (result ≡ 6) × (answer.new ≡ answer.old) }
-    ensures run { check_in_range options.now ≡ true → ReturnsRules options.now bytes.now wants
+    ensures run { check_in_range options.now ≡ true → ReturnsCheckTexts options.now bytes.now wants
         (record { output = output.old; report = report.old })
         (record { output = output.new; report = report.new })
         answer.new result }

@@ -61,7 +61,8 @@ primary_by bundle names =
     (eid_by bundle.source names.source))
     (eid_by bundle.destination names.destination)
 
--- the bytes of that primary block, with a check of this type; `None` if it cannot be written
+-- The bytes of the primary block with these numbers, these names and a check of this type. The
+-- result is `None` if it cannot be written.
 abbrev pub primary_bytes_by : Bundle → (type : ℕ) → Names → Option (List ℕ)
 primary_bytes_by bundle type names =
     option_and_then (λ check.
@@ -81,7 +82,7 @@ head_by block =
     }) (check_by block.check)
     else None
 
--- the bytes of that head, or `None` if it cannot be written
+-- the bytes of the head of a canonical block with these numbers, or `None` if it cannot be written
 abbrev pub block_bytes_by : BlockNumbers → Option (List ℕ)
 block_bytes_by block =
     option_and_then

@@ -26,8 +26,8 @@ plain it =
       next = 0;
     }
 
--- The kind and the numbers of `it` are those of a message with these fields. A number that this
--- kind of message does not have is 0.
+-- Each field fits, and `it` shows the kind and the numbers of a message with these fields. A number
+-- that this kind of message does not have is 0.
 pub record HasFields (it : Message) (fields : Fields) : Type 0 where
   pub fit : FieldsFit fields
   pub shown : plain it ≡ fields_shown fields
@@ -37,9 +37,9 @@ abbrev pub IsNoMessage : Message → Type 0
 IsNoMessage it = (fields : Fields) → FieldsFit fields → plain it ≢ fields_shown fields
 
 -- What a call says of the message with these numbers: its fields, or `None` if no message has them.
-abbrev pub AfterFieldsBy : Message → Option Fields → Type 0
-AfterFieldsBy it (Some fields) = HasFields it fields
-AfterFieldsBy it None = IsNoMessage it
+abbrev pub FindsFields : Message → Option Fields → Type 0
+FindsFields it (Some fields) = HasFields it fields
+FindsFields it None = IsNoMessage it
 
 -- the number if it fits in one byte, or else `None`
 abbrev pub byte : ℕ → Option ℕ
@@ -49,8 +49,8 @@ byte number = if nat_lt number 256 then Some number else None
 abbrev pub two_bytes : ℕ → Option ℕ
 two_bytes number = if nat_lt number 65536 then Some number else None
 
--- The fields of a message of this kind, whatever the numbers are that the kind does not have. It is
--- `None` for an unknown kind, and if a number is too large for its field.
+-- The fields of a message of this kind. Numbers that this kind does not use are not read. The
+-- result is `None` if the kind is unknown, or if a number is too large for its field.
 unfoldable pub fields_of : Message → Option Fields
 fields_of it =
     if it.kind == 1 then option_map (λ flags. Segment flags it.id it.data_length) (byte it.flags)

@@ -5,7 +5,7 @@ use Rattle.link_writing.specs.declared.fault.WriteFault.{WriteFault}
 use Rattle.link_writing.specs.declared.fault.WriteFault.TheVariants.{OutOfRange, TooSmall}
 use Rattle.link_ffi_writer.specs.declared.written.Written.{Written}
 
--- the number of bytes written and of those that are needed, and the status: TCPCLKIT_OK,
+-- the number of bytes written, the number of bytes needed, and the status: TCPCLKIT_OK,
 -- TCPCLKIT_TOO_SMALL or TCPCLKIT_RANGE
 abbrev pub written_shown : Result ℕ WriteFault → Written × ℕ
 written_shown (Ok size) = (record { count = size; needed = size }, 0)

@@ -1,7 +1,7 @@
 //! A check value that is computed in pieces, as numbers that a caller in C keeps.
 
 ghost use Rattle.std.specs.Prelude.{◌≡◌, ℕ, ◌^◌, ◌<◌, true, List, [], ◌++◌, Some, None, IfSome, IsSomeAnd, is_some, option_map};
-ghost use Rattle.link_cbor.specs.Pushed.{HasPushed};
+ghost use Rattle.link_cbor.specs.Pushed.{IsCheckAt};
 ghost use Rattle.link_cbor.specs.declared.check.CheckKind.{CheckKind};
 ghost use Rattle.link_ffi_writer.specs.Checks.{kind_by, kind_of, IsKeptCheckAt};
 
@@ -20,7 +20,7 @@ pub struct KeptCheck {
 
 /// The numbers of a check of this kind.
 fn check_shown(kind: CheckKind, check: &Check) -> KeptCheck
-    ensures { (bytes : List ℕ) → HasPushed kind check.now bytes → IsKeptCheckAt kind result bytes }
+    ensures { (bytes : List ℕ) → IsCheckAt kind check.now bytes → IsKeptCheckAt kind result bytes }
 {
     let number = match kind {
         CheckKind::Crc16 => 1,
@@ -35,7 +35,7 @@ fn check_shown(kind: CheckKind, check: &Check) -> KeptCheck
 impl KeptCheck {
     ghost use Rattle.link_bundle_writer.specs.NewBlocks.{check_field};
     ghost use Rattle.link_cbor.specs.Crc.{crc};
-    ghost use Rattle.link_writing.specs.Writes.{WritesSlice};
+    ghost use Rattle.link_writing.specs.Writes.{WritesIntoSlice};
 
     /// A check to which no byte was fed, by its check type: 1 is CRC-16, and 2 is CRC-32. It is
     /// `None` for any other type.
@@ -52,7 +52,7 @@ impl KeptCheck {
         Some(check_shown(known, &Check::new(known)))
     }
 
-    /// The kind of the check, or `None` if the numbers are those of no check.
+    /// The kind of the check, or `None` if `kind` or `state` is out of its range.
     fn kind(&self) -> Option<CheckKind>
         ensures kind { result ≡ kind_of self.now }
         ensures fits { IfSome result (λ kind. self.now.state < 2 ^ 32) }
@@ -64,18 +64,19 @@ impl KeptCheck {
         }
     }
 
-    /// The kind of the check, and the check. It is `None` if the numbers are those of no check.
+    /// The kind of the check, and the check. The result is `None` if `kind` or `state` is out of
+    /// its range.
     fn check(&self) -> Option<(CheckKind, Check)>
         ensures kind { option_map (λ found. found.0) result ≡ kind_of self.now }
         ensures check { (kind : CheckKind) (bytes : List ℕ) → IsKeptCheckAt kind self.now bytes
-            → IfSome result (λ found. HasPushed kind found.1 bytes) }
+            → IfSome result (λ found. IsCheckAt kind found.1 bytes) }
     {
         let kind = self.kind()?;
         Some((kind, Check::from_parts(kind, self.state as u32)))
     }
 
-    /// Feeds the bytes of a piece to the check. Returns false, and changes nothing, if the numbers
-    /// are those of no check.
+    /// Feeds the bytes of a piece to the check. Returns false, and changes nothing, if `kind` or
+    /// `state` is out of its range.
     pub fn feed(&mut self, piece: &[u8]) -> bool
         ensures fed { (kind : CheckKind) (before : List ℕ) → IsKeptCheckAt kind self.old before
             → IsKeptCheckAt kind self.new (before ++ piece.now) }
@@ -102,15 +103,16 @@ impl KeptCheck {
         Some(check.value())
     }
 
-    /// Writes the check field of a block whose bytes before the field were fed.
+    /// Writes the check field of a block. All bytes of the block before this field were fed.
     ///
     /// # Errors
     ///
-    /// The numbers are not those of a check, or the slice is too small.
+    /// `kind` or `state` is out of its range, or the slice is too small.
     pub fn write_field(&self, slice: &mut [u8]) -> Result<usize, WriteFault>
         ensures field { (kind : CheckKind) (block : List ℕ) → IsKeptCheckAt kind self.now block
-            → WritesSlice (Some (check_field kind block)) slice.old slice.new result }
-        ensures unknown { kind_of self.now ≡ None → WritesSlice None slice.old slice.new result }
+            → WritesIntoSlice (Some (check_field kind block)) slice.old slice.new result }
+        ensures unknown { kind_of self.now ≡ None
+            → WritesIntoSlice None slice.old slice.new result }
     {
         let Some((kind, check)) = self.check() else {
             return Err(WriteFault::OutOfRange);

@@ -2,7 +2,7 @@
 
 ghost use Rattle.std.specs.Prelude.{◌≡◌, ◌&&◌, nat_lt, Some, None, IfSome, if◌then◌else◌};
 ghost use Rattle.link_wire_writer.specs.ReadsBack.{FieldsFit};
-ghost use Rattle.link_ffi_writer.specs.Messages.{byte, two_bytes, fields_of, has_same, AfterFieldsBy, reason_of_by};
+ghost use Rattle.link_ffi_writer.specs.Messages.{byte, two_bytes, fields_of, has_same, FindsFields, reason_of_by};
 
 use link_ffi_numbers::recording::{Message, fields_shown};
 use link_report::ReasonOf;
@@ -30,14 +30,14 @@ fn two_bytes(number: u64) -> Option<u16>
     }
 }
 
-/// The fields of a message of this kind, whatever the numbers are that the kind does not have. It
-/// is `None` for an unknown kind, and if a number is too large for its field.
+/// The fields of a message of this kind. Numbers that this kind does not use are not read. The
+/// result is `None` if the kind is unknown, or if a number is too large for its field.
 #[tactic(auto, unfolding(crate::specs::Messages::fields_of))]
 fn fields_of(message: &Message) -> Option<Fields>
     ensures fields { result ≡ fields_of message.now }
     ensures fit { IfSome result (λ fields. FieldsFit fields) }
 {
-    // A number that is bound has a known range.
+    // The prover knows the range of a number once a pattern has bound it to a variable.
     let Message {
         id,
         acknowledged,
@@ -99,10 +99,9 @@ fn has_same(first: &Message, second: &Message) -> bool
 
 /// The fields of the message that has these numbers, if there is one.
 ///
-/// The fault and the places are not read. Each other number that the kind does not have has to be
-/// 0.
+/// The fault and the places are not read. Any other number that this kind does not use must be 0.
 pub fn fields_by(message: &Message) -> Option<Fields>
-    ensures { AfterFieldsBy message.now result }
+    ensures { FindsFields message.now result }
 {
     let fields = fields_of(message)?;
     if has_same(message, &fields_shown(fields)) {
@@ -112,7 +111,8 @@ pub fn fields_by(message: &Message) -> Option<Fields>
     }
 }
 
-/// The flags and the type of an item, if they fit in one byte and in two.
+/// The flags and the type of an item. The result is `None` if the flags do not fit in one byte, or
+/// the type does not fit in two.
 pub fn item_numbers(flags: u64, kind: u64) -> Option<(u8, u16)>
     ensures { result
         ≡ (if nat_lt flags 256 && nat_lt kind 65536 then Some (flags, kind) else None) }

@@ -6,7 +6,7 @@ use Rattle.std.proofs.{lemmas.List.Elements.{All-nil, All-append}, Math.Seq.{tak
 use Rattle.std.proofs.lemmas.{Bool.{and_parts, cases_lt, Decides.nat_tests}, List.nil_from_length}
 use Rattle.std.proofs.lemmas.Grind.{common_steps}
 use Rattle.link_io.specs.{Bytes.IsByte, Device.Input, Limits.{longest_input, window_size}}
-use Rattle.link_io.specs.Source.{is_open, is_fresh, IsSourceAt, IsLiveBy, IsLive, HasEnded, HasFailed, IsOver, given_by, taken_by, window_of, held_from, at_hand, front_of, ahead, reach, GivesAtHand, KeepsWindowUnlessGiven, Takes, Readies, TakesThenStops}
+use Rattle.link_io.specs.Source.{is_open, is_fresh, IsSourceAt, IsLiveBy, IsLive, HasEnded, HasFailed, IsOver, given_by, taken_by, window_of, held_from, at_hand, front_of, ahead, reach, GivesAtHand, KeepsWindowOrMakesRoom, Takes, Readies, TakesThenStops}
 use Rattle.link_io.specs.declared.fault.IoFault.{IoFault}
 use Rattle.link_io.proofs.Windows.{range_none}
 use Rattle.link_io.specs.declared.source.Flow.{Flow}
@@ -259,24 +259,24 @@ drop_less n bound xs room some = omega (arith, length-take n xs, length-drop n x
 
 module _ {R : Type 0} where
   -- the window after its first `n` bytes were given
-  pub KeepsWindowUnlessGiven-drop : (old new : Source R) (n : ℕ) → window_of new ≡ drop n (window_of old)
-      → length (window_of old) ≤ window_size → KeepsWindowUnlessGiven old new (take n (window_of old))
-  KeepsWindowUnlessGiven-drop old new n rest room = record {
+  pub KeepsWindowOrMakesRoom-drop : (old new : Source R) (n : ℕ) → window_of new ≡ drop n (window_of old)
+      → length (window_of old) ≤ window_size → KeepsWindowOrMakesRoom old new (take n (window_of old))
+  KeepsWindowOrMakesRoom-drop old new n rest room = record {
     kept = λ none. rest ∙ drop_none n (window_of old) none;
     less = λ some. rw rest (drop_less n window_size (window_of old) room some);
   }
 
-  pub KeepsWindowUnlessGiven-none : (s : Source R) → KeepsWindowUnlessGiven s s []
-  KeepsWindowUnlessGiven-none s = record { kept = λ none. refl; less = λ some. absurd (omega arith) }
+  pub KeepsWindowOrMakesRoom-none : (s : Source R) → KeepsWindowOrMakesRoom s s []
+  KeepsWindowOrMakesRoom-none s = record { kept = λ none. refl; less = λ some. absurd (omega arith) }
 
-  less_then : (old mid new : Source R) (xs ys : List ℕ) → KeepsWindowUnlessGiven old mid xs
-      → KeepsWindowUnlessGiven mid new ys → 0 < length (xs ++ ys) → length (window_of new) < window_size
+  less_then : (old mid new : Source R) (xs ys : List ℕ) → KeepsWindowOrMakesRoom old mid xs
+      → KeepsWindowOrMakesRoom mid new ys → 0 < length (xs ++ ys) → length (window_of new) < window_size
   less_then old mid new xs [] p q some = rw (q.kept refl) (p.less (rw append-nil at some))
   less_then old mid new xs (y ∷ ys) p q some = q.less (omega arith)
 
-  KeepsWindowUnlessGiven-then : (old mid new : Source R) (xs ys : List ℕ) → KeepsWindowUnlessGiven old mid xs
-      → KeepsWindowUnlessGiven mid new ys → KeepsWindowUnlessGiven old new (xs ++ ys)
-  KeepsWindowUnlessGiven-then old mid new xs ys p q = record {
+  KeepsWindowOrMakesRoom-then : (old mid new : Source R) (xs ys : List ℕ) → KeepsWindowOrMakesRoom old mid xs
+      → KeepsWindowOrMakesRoom mid new ys → KeepsWindowOrMakesRoom old new (xs ++ ys)
+  KeepsWindowOrMakesRoom-then old mid new xs ys p q = record {
     kept = λ none. q.kept (omega (arith, length-append xs ys)) ∙ p.kept (omega (arith, length-append xs ys));
     less = less_then old mid new xs ys p q;
   }
@@ -288,7 +288,7 @@ module _ {R : Type 0} (look : R → Input) where
     next = Consumes-nil (ahead look s);
     count = sym (add-zero (given_by s));
     device = refl;
-    window = KeepsWindowUnlessGiven-none s;
+    window = KeepsWindowOrMakesRoom-none s;
   }
 
   pub Takes-then : (old mid new : Source R) (xs ys : List ℕ) → Takes look old mid xs
@@ -298,7 +298,7 @@ module _ {R : Type 0} (look : R → Input) where
     next = Consumes-trans (ahead look old) (ahead look mid) (ahead look new) xs ys p.next q.next;
     count = omega (arith, p.count, q.count, length-append xs ys);
     device = q.device ∙ p.device;
-    window = KeepsWindowUnlessGiven-then old mid new xs ys p.window q.window;
+    window = KeepsWindowOrMakesRoom-then old mid new xs ys p.window q.window;
   }
 
   -- nothing was read

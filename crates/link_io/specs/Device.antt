@@ -1,15 +1,15 @@
 -- The state of a device, as contracts see it.
 use Rattle.std.specs.Prelude.{◌≡◌, ℕ, Bool, List, ◌++◌, Option, None, Some, ⊤}
 
--- an input device: the bytes left, `None` if they are not known, whether it has failed, and the
--- next bytes, as many as it already holds
+-- An input device. `left` is the bytes that are left, or `None` if they are not known. `failed` is
+-- whether a read has failed. `held` is the first of the bytes left, which the device holds already.
 pub record Input : Type 0 where
   pub left : Option (List ℕ)
   pub failed : Bool
   pub held : List ℕ
 
--- an output device: the bytes written, `None` if they are not known, whether it has failed, and
--- the written bytes that it has handed on, `None` if they are not known
+-- An output device. `written` is the bytes written, and `handed` is those of them that were handed
+-- on. Each is `None` if it is not known. `failed` is whether a write or a settle has failed.
 pub record Output : Type 0 where
   pub written : Option (List ℕ)
   pub failed : Bool

@@ -30,9 +30,10 @@ IsLiveBy flow.Open left start end = Unit {0}
 IsLiveBy flow.Ended left start end = IsAtEnd left × (start ≡ end)
 IsLiveBy (flow.Failed fault) left start end = ⊥
 
--- The front, if the window is empty: the bytes that the reader holds, at most `most`, which is what
--- the limit of an input leaves. It is empty after the end or a fault.
-abbrev pub held_from : Flow → (most : ℕ) → List ℕ → List ℕ
+-- The bytes that a source can still give of `held`, which is what its reader holds: the first
+-- `most` of them. If it gave more than `most`, the input would be too long. After the end or a
+-- stop, it gives none, even if the reader holds some. If the window is empty, this is the front.
+abbrev pub held_from : Flow → (most : ℕ) → (held : List ℕ) → List ℕ
 held_from flow.Open most held = take most held
 held_from flow.Ended most held = []
 held_from (flow.Failed fault) most held = []
@@ -65,8 +66,8 @@ module _ {R : Type 0} where
       window_of source
       ++ held_from source.flow (longest_input - taken_by source) (look source.reader).held
 
-  -- The front: the bytes of the window, or those that the reader holds if the window is empty. They
-  -- lie in one piece.
+  -- The front: the bytes of the window, or, if the window is empty, the bytes that the reader
+  -- holds, up to the limit of an input. They lie in one piece.
   unfoldable pub front_of : (R → Input) → Source R → List ℕ
   front_of look source =
       if nat_lt source.start source.end
@@ -112,9 +113,9 @@ module _ {R : Type 0} where
     pub empty : IsAtEnd (look source.reader).left
 
   -- What is known of the window after the source gave these bytes. If none was given, the window
-  -- has not changed. If a byte was given, the window is not full, since only an empty window is
-  -- read into, and then the byte came from it.
-  pub record KeepsWindowUnlessGiven (old new : Source R) (bytes : List ℕ) : Type 0 where
+  -- has not changed. If a byte was given, the window is not full: it is empty, or a byte of it was
+  -- given after the latest read.
+  pub record KeepsWindowOrMakesRoom (old new : Source R) (bytes : List ℕ) : Type 0 where
     pub kept : length bytes ≡ 0 → window_of new ≡ window_of old
     pub less : 0 < length bytes → length (window_of new) < window_size
 
@@ -125,7 +126,7 @@ module _ {R : Type 0} where
     pub next : Consumes (ahead look old) (ahead look new) bytes
     pub count : given_by new ≡ given_by old + length bytes
     pub device : (look new.reader).failed ≡ (look old.reader).failed
-    pub window : KeepsWindowUnlessGiven old new bytes
+    pub window : KeepsWindowOrMakesRoom old new bytes
 
   -- From `old` to `new` nothing was given, and the reader did not fail. A window that had bytes has
   -- not changed.
@@ -135,8 +136,9 @@ module _ {R : Type 0} where
     pub device : (look new.reader).failed ≡ (look old.reader).failed
     pub kept : 0 < length (window_of old) → window_of new ≡ window_of old
 
-  -- Why the source stopped. Either the reader failed, and all bytes taken before were given. Or one
-  -- of the bytes `past` of the last read is past the limit, and none of these was given.
+  -- Why the source stopped at this fault. `past` is the bytes that were taken and not given. At
+  -- `Read`, the reader failed, and there are none. At `InputTooLong`, `past` is all that the latest
+  -- read brought, and its last byte is past the limit of an input. No other fault stops a source.
   abbrev pub HasCause : (R → Input) → Source R → IoFault → List ℕ → Type 0
   HasCause look new io.Read past = (past ≡ []) × ((look new.reader).failed ≡ true)
   HasCause look new io.InputTooLong past =
@@ -191,23 +193,26 @@ module _ {R : Type 0} where
     pub over : n ≡ 0 → 0 < length buffer → IsOver look new
 
   -- what `some` did, by its result; the buffer is as it is after the call
-  abbrev pub AfterSome : (R → Input) → Source R → Source R → List ℕ → Result ℕ IoFault → Type 0
-  AfterSome look old new buffer (Ok n) = GivenBytes look old new buffer n
-  AfterSome look old new buffer (Err fault) = TakesThenStops look old new [] fault
+  abbrev pub AfterGivingSome : (R → Input) → Source R → Source R → List ℕ → Result ℕ IoFault
+      → Type 0
+  AfterGivingSome look old new buffer (Ok n) = GivenBytes look old new buffer n
+  AfterGivingSome look old new buffer (Err fault) = TakesThenStops look old new [] fault
 
-  -- The cases of a `fill`: the source filled the whole slice; the input ended after `n` bytes; or
-  -- the source stopped at a fault after `count` bytes.
+  -- `fill` gave as many bytes as the slice has room for. `buffer` is the slice after the call.
   pub record FilledSlice (look : R → Input) (old new : Source R) (buffer : List ℕ) : Type 0 where
     pub takes : Takes look old new buffer
     pub live : IsLive look new
 
-  pub record EndedSlice (look : R → Input) (old new : Source R)
+  -- `fill` gave the first `n` bytes of the slice, fewer than it has room for, and the input is over
+  pub record EndedInSlice (look : R → Input) (old new : Source R)
       (buffer : List ℕ) (n : ℕ) : Type 0 where
     pub part : n < length buffer
     pub takes : Takes look old new (take n buffer)
     pub over : IsOver look new
 
-  pub record StoppedSlice (look : R → Input) (old new : Source R) (buffer : List ℕ)
+  -- `fill` gave the first `count` bytes of the slice, fewer than it has room for, and then the
+  -- source stopped at this fault
+  pub record FailedSlice (look : R → Input) (old new : Source R) (buffer : List ℕ)
       (fault : IoFault) : Type 0 where
     pub count : ℕ
     pub part : count < length buffer
@@ -216,8 +221,8 @@ module _ {R : Type 0} where
   -- what `fill` did, by its result; the buffer is as it is after the call
   abbrev pub AfterFill : (R → Input) → Source R → Source R → List ℕ → Result Filled IoFault → Type 0
   AfterFill look old new buffer (Ok filled.Whole) = FilledSlice look old new buffer
-  AfterFill look old new buffer (Ok (filled.Ended n)) = EndedSlice look old new buffer n
-  AfterFill look old new buffer (Err fault) = StoppedSlice look old new buffer fault
+  AfterFill look old new buffer (Ok (filled.Ended n)) = EndedInSlice look old new buffer n
+  AfterFill look old new buffer (Err fault) = FailedSlice look old new buffer fault
 
   -- What each call that fills a slice ensures. `before` and `after` are the slice before and after
   -- the call.

@@ -19,8 +19,8 @@ module _ {D : Type 0} where
   abbrev pub waiting : TextWriter D → List ℕ
   waiting writer = take writer.end writer.page.items
 
-  -- The writer as an output device. The bytes that it handed on count as written, and so do those
-  -- that wait.
+  -- The writer as an output device. The bytes that wait count as written, after all bytes that were
+  -- written to the device below. `failed` and `handed` are the same as for the device below.
   abbrev pub output_of : (D → Output) → TextWriter D → Output
   output_of look writer = record {
     written = append_known (look writer.device).written (waiting writer);

@@ -88,8 +88,8 @@ pub trait OutDevice {
 
     /// Writes all of a text.
     ///
-    /// Here the text is made in `page`. A device with memory of its own may make it there. The
-    /// fault is [`IoFault::Write`], and then a proper prefix of the text was written.
+    /// The text is made in `page`. A device may make it in memory of its own instead. If a write
+    /// fails, the fault is [`IoFault::Write`], and only a proper prefix of the text was written.
     fn write_text<T: Text>(&mut self, text: &T, page: &mut [u8]) -> Result<(), IoFault>
         requires page { TEXT_MAX ≤ length page.old }
         ensures ok { OnOk result (WrittenWhole state self.old self.new (T.text text.now)) }

@@ -132,8 +132,8 @@ impl<R: InDevice> Source<R> {
         copy_into(bytes, at, &held[..count])
     }
 
-    /// The bytes at hand after those of the window: what the reader holds, up to the limit of an
-    /// input.
+    /// The bytes at hand after the window: what the reader holds, up to the limit of an input.
+    /// There are none after the end or a fault.
     fn held_ahead(&self) -> &[u8]
         ensures held { result.now ≡ held_from self.now.flow (longest_input - taken_by self.now)
             (R.state (reader_of self.now)).held }
@@ -151,7 +151,7 @@ impl<R: InDevice> Source<R> {
         ensures window { result.now ≡ window_of self.now }
         ensures bytes { AreBytes result.now }
     {
-        part(&self.window, self.start, self.end)
+        subslice(&self.window, self.start, self.end)
     }
 
     /// The bytes of the window, or, if the window is empty, the bytes that the reader holds.
@@ -169,7 +169,8 @@ impl<R: InDevice> Source<R> {
         self.held_front()
     }
 
-    /// Returns what [`Source::front`] returns for an empty window: the bytes that the reader holds.
+    /// Returns what [`Source::front`] returns for an empty window: the bytes that the reader holds,
+    /// up to the limit of an input. There are none after the end or a fault.
     #[inline(always)]
     fn held_front(&self) -> &[u8]
         requires { self.now.start ≡ self.now.end }
@@ -261,8 +262,9 @@ impl<R: InDevice> Source<R> {
 
     /// Reads once if nothing is at hand, and returns how many bytes [`Source::front`] then shows.
     ///
-    /// This is [`Source::ready`] for a caller that looks at [`Source::front`]. A reader with a
-    /// buffer may give one byte only, and hold the others.
+    /// As for [`Source::ready`], 0 means the end of the input. If the reader has a buffer, the read
+    /// may take only the first byte into the window ([`InDevice::read_first`]). The front then
+    /// shows this byte. After it was given, the front shows the bytes that the reader holds.
     #[inline(always)]
     pub fn ready_front(&mut self) -> Result<usize, IoFault>
         ensures size { IfOk result (λ n. n ≡ length (front_of R.state self.new)) }
@@ -282,10 +284,11 @@ impl<R: InDevice> Source<R> {
         self.read_on(true)
     }
 
-    /// Does the rest of [`Source::ready`] (`first` is false) when the window is empty, and the rest
-    /// of [`Source::ready_front`] (`first` is true) when nothing is at hand.
+    /// Takes what the reader holds into the empty window. If the reader holds nothing, reads once.
     ///
-    /// Returns how many bytes the window then has.
+    /// Returns how many bytes the window then has. After the end or a fault, it does not read.
+    /// [`Source::ready`] passes false as `first`. [`Source::ready_front`] passes true, so the read
+    /// may take only the first byte of what the reader has read ([`InDevice::read_first`]).
     #[cold]
     #[inline(never)]
     fn read_on(&mut self, first: bool) -> Result<usize, IoFault>
@@ -327,8 +330,11 @@ impl<R: InDevice> Source<R> {
         count
     }
 
-    /// Reads once, into an empty window, and returns how many bytes. If `first` is true, a reader
-    /// with a buffer may give only the first byte, and hold the others.
+    /// Reads once, into an empty window, and returns how many bytes. It fails if the reader fails,
+    /// or if a byte that was read is past the limit of an input.
+    ///
+    /// If `first` is true, a reader with a buffer may return only the first byte, and hold the
+    /// others.
     fn read(&mut self, first: bool) -> Result<usize, IoFault>
         requires open { self.old.flow ≡ Flow.Open }
         requires empty { self.old.start ≡ self.old.end }
@@ -361,7 +367,7 @@ impl<R: InDevice> Source<R> {
 /// The calls that copy bytes.
 impl<R: InDevice> Source<R> {
     ghost use Rattle.std.specs.Prelude.{◌≡◌, ◌+◌, ◌-◌, ◌<◌, ◌≤◌, Ok, [], length, take, drop, IfOk};
-    ghost use Rattle.link_io.specs.Source.{reader_of, window_of, at_hand, reach, GivesAtHand, IsLive, HasEnded, HasFailed, Takes, AfterSome, FillsSlice};
+    ghost use Rattle.link_io.specs.Source.{reader_of, window_of, at_hand, reach, GivesAtHand, IsLive, HasEnded, HasFailed, Takes, AfterGivingSome, FillsSlice};
 
     /// Gives the next bytes, after at most one read, and returns how many.
     ///
@@ -371,7 +377,7 @@ impl<R: InDevice> Source<R> {
     pub fn some(&mut self, buffer: &mut [u8]) -> Result<usize, IoFault>
         ensures bound { IfOk result (λ n. n ≤ length buffer.new) }
         ensures gives { IsLive R.state self.old
-            → AfterSome R.state self.old self.new buffer.new result }
+            → AfterGivingSome R.state self.old self.new buffer.new result }
         ensures ended { HasEnded self.old → (self.new ≡ self.old) × (result ≡ Ok 0) }
         ensures failed { (fault : _) → HasFailed self.old fault
             → (self.new ≡ self.old) × (result ≡ Err fault) }
@@ -412,7 +418,7 @@ impl<R: InDevice> Source<R> {
         self.give(count);
     }
 
-    /// Fills the buffer with the next bytes, or the start of it with all that the input still has.
+    /// Fills the buffer with the next bytes. If fewer are left, they fill only the start of it.
     ///
     /// It may read several times. After the end it gives nothing, and after a fault it returns that
     /// fault again. In both cases it does not read.
@@ -456,15 +462,15 @@ impl<R: InDevice> Source<R> {
         Ok(Filled::Whole)
     }
 
-    /// Does [`Source::some`] for the part of the buffer from index `at` on. The result does not
-    /// count the bytes before.
+    /// Does [`Source::some`] for the buffer from index `at` on. The result counts only the bytes
+    /// from there on.
     #[inline]
     fn some_from(&mut self, buffer: &mut [u8], at: usize) -> Result<usize, IoFault>
         requires { at < length buffer.old }
         ensures before { take at buffer.new ≡ take at buffer.old }
         ensures bound { IfOk result (λ n. at + n ≤ length buffer.new) }
         ensures gives { IsLive R.state self.old
-            → AfterSome R.state self.old self.new (drop at buffer.new) result }
+            → AfterGivingSome R.state self.old self.new (drop at buffer.new) result }
         ensures ended { HasEnded self.old → (self.new ≡ self.old) × (result ≡ Ok 0) }
         ensures failed { (fault : _) → HasFailed self.old fault
             → (self.new ≡ self.old) × (result ≡ Err fault) }
@@ -480,10 +486,10 @@ impl<R: InDevice> Source<R> {
 
 /// Returns `window[start..end]`. The clause `bytes` adds that each number in it is a byte.
 #[inline(always)]
-fn part(window: &[u8], start: usize, end: usize) -> &[u8]
+fn subslice(window: &[u8], start: usize, end: usize) -> &[u8]
     requires ordered { start ≤ end }
     requires within { end ≤ length window.now }
-    ensures part { result.now ≡ slice_range window.now start end }
+    ensures slice { result.now ≡ slice_range window.now start end }
     ensures bytes { AreBytes result.now }
 {
     &window[start..end]
@@ -495,10 +501,11 @@ fn up_to(bytes: &[u8], most: u64) -> &[u8]
     ensures first { result.now ≡ take most bytes.now }
     ensures bytes { AreBytes result.now }
 {
-    part(bytes, 0, most.min(bytes.len() as u64) as usize)
+    subslice(bytes, 0, most.min(bytes.len() as u64) as usize)
 }
 
-/// Copies the first bytes into a whole window, and returns how many.
+/// Copies `bytes` to the start of the window, as many as fit, and returns how many. `window` is the
+/// whole window of a source.
 fn copy_front(window: &mut [u8], bytes: &[u8]) -> usize
     requires { length window.old ≡ 8192 }
     ensures size { result ≡ min (length bytes.now) 8192 }
@@ -508,8 +515,10 @@ fn copy_front(window: &mut [u8], bytes: &[u8]) -> usize
     copy_into(window, 0, &bytes[..size])
 }
 
-/// Reads once, into a whole window, and returns how many bytes. If `first` is true, a reader with a
-/// buffer may give only the first byte, and hold the others.
+/// Reads once, and returns how many bytes. `window` is the whole window of a source.
+///
+/// If `first` is false, this is [`InDevice::read`]. If `first` is true, it is
+/// [`InDevice::read_first`].
 fn read_ahead<R: InDevice>(
     reader: &mut R,
     window: &mut [u8],

@@ -45,7 +45,7 @@ impl<D: OutDevice + Drop> TextWriter<D> {
 }
 
 impl<D: OutDevice> TextWriter<D> {
-    /// Makes a writer over the device, with this page.
+    /// Makes a writer over the device, with this page of [`PAGE`] bytes, in which nothing waits.
     fn over(device: D, page: Vec<u8>) -> TextWriter<D>
         requires { length page.items ≡ 65536 }
         ensures { output_of D.state result ≡ D.state device }
@@ -134,7 +134,7 @@ impl<D: OutDevice> TextWriter<D> {
     }
 
     /// Appends a text that was made elsewhere, because the page had less room than [`TEXT_MAX`].
-    /// What waits is handed on first.
+    /// What waits is handed on first, unless the text is empty.
     #[cold]
     #[inline(never)]
     fn write_made(&mut self, text: &[u8]) -> Result<(), IoFault>
@@ -208,7 +208,7 @@ fn zeros(alloc: Global, size: usize) -> Result<Vec<u8>, AllocError>
     Ok(vec![in alloc; 0; size]?)
 }
 
-/// Moves the bytes from `start` to `end` to the start of the page, and returns how many they are.
+/// Moves the bytes `start..end` of the page to its index 0, and returns how many these are.
 fn keep_from(page: &mut Vec<u8>, start: usize, end: usize) -> usize
     requires order { start ≤ end }
     requires within { end ≤ length page.old.items }

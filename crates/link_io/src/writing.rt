@@ -9,7 +9,7 @@ use crate::fault::IoFault;
 
 /// Writes all of the bytes, with as many writes as are needed.
 ///
-/// The fault is [`IoFault::Write`], and then a proper prefix of the bytes was written.
+/// If a write fails, it returns [`IoFault::Write`]. Only a proper prefix of the bytes was written.
 #[inline(always)]
 pub fn write_whole<W: OutDevice>(out: &mut W, bytes: &[u8]) -> Result<(), IoFault>
     ensures ok { OnOk result (WrittenWhole W.state out.old out.new bytes.now) }

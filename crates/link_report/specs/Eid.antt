@@ -3,7 +3,8 @@ use Rattle.std.specs.Prelude.{ℕ, List, ◌++◌, codes}
 use Rattle.link_bundle_types.specs.declared.eid.{Eid.Eid, Eid.TheVariants.{DtnNone, Dtn, Ipn, Ipn3}}
 use Rattle.link_report.specs.Text.{escaped, number_text}
 
--- an ipn endpoint ID has two or three numbers, and the text has the same
+-- The text of an endpoint ID. An ipn endpoint ID of two numbers has two in its text, and an ipn
+-- endpoint ID of three numbers has three.
 unfoldable pub eid_text : Eid → List ℕ
 eid_text DtnNone = codes "dtn:none"
 eid_text (Dtn name) = codes "dtn:" ++ escaped name.items

@@ -37,8 +37,8 @@ unfoldable pub bundle_offset_text : ℕ → ℕ → List ℕ
 bundle_offset_text number offset =
     number_text (codes "bundle ") number ++ number_text (codes " byte ") offset ++ codes ": "
 
--- The position of a fault, and its text. `P1` is the code of a bundle that is longer than the
--- peer's transfer limit.
+-- The position of a fault, and its text. The code of a bundle's fault comes before the text. `P1`
+-- is the code of a bundle that is longer than the peer's transfer limit.
 unfoldable pub place_text : Fault → List ℕ
 place_text (Wire offset fault) = offset_text offset ++ wire_text fault
 place_text (Order offset fault) = offset_text offset ++ order_text fault

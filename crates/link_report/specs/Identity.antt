@@ -18,7 +18,8 @@ origin_text source time sequence =
     codes "source=" ++ eid_text source ++ number_text (codes " time=") time
     ++ number_text (codes " sequence=") sequence
 
--- what a line says of a good bundle
+-- what a line says of a good bundle: the source, the creation timestamp, the destination, the
+-- length of the payload, and the two numbers of a fragment
 unfoldable pub identity_text : BundleInfo → List ℕ
 identity_text info =
     origin_text info.source info.time info.sequence ++ codes " destination="

@@ -27,8 +27,9 @@ judged_length (Total total) size verdict =
     if total == size then judged_data verdict else LengthDiffers total
 judged_length Malformed size verdict = BadLengthItem
 
--- The first that holds: another transfer began, the length item is bad, another length is
--- announced, the data are no bundle, the data are a bundle.
+-- The judgement on a transfer with `size` bytes of data. It is the first of these that holds:
+-- another transfer began, the length item is bad, another length is announced, the data are no
+-- bundle, the data are a bundle.
 abbrev pub judged_transfer : Bool → Announced → ℕ → Result BundleInfo (BundleFault × ℕ) → Judgement
 judged_transfer abandoned announced size verdict =
     if abandoned then Abandoned else judged_length announced size verdict
@@ -60,6 +61,6 @@ viewed_judgement (view.Bad fault offset) = Bad fault offset
 viewed_judgement (view.Good info) = Good (viewed_info info)
 
 -- the dtn names of a good bundle have at most 1,024 bytes each; other judgements have no names
-abbrev pub IsShortJudgement : Judgement → Type 0
-IsShortJudgement (Good info) = HasShortNames info
-IsShortJudgement _ = Unit {0}
+abbrev pub HasOnlyShortNames : Judgement → Type 0
+HasOnlyShortNames (Good info) = HasShortNames info
+HasOnlyShortNames _ = Unit {0}

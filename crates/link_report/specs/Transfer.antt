@@ -5,8 +5,8 @@ use Rattle.link_report.specs.declared.transfer.TransferView.{TransferView}
 use Rattle.link_report.specs.Judgement.{judgement_text, viewed_judgement}
 use Rattle.link_report.specs.Text.{number_text, newline}
 
--- a transfer's ID, the offset of its bytes in the output, their number there, and the number of its
--- data bytes
+-- The ID and the extent of a transfer. The output contains `written` bytes of it, from the offset
+-- `start` on. `size` is the number of its data bytes.
 unfoldable pub extent_text : ℕ → ℕ → ℕ → ℕ → List ℕ
 extent_text id start written size =
     number_text (codes "transfer ") id ++ number_text (codes " start=") start

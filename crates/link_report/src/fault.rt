@@ -98,6 +98,9 @@ fn put_bundle_offset(line: &mut Line, number: u64, offset: u64)
 }
 
 /// Appends the position and the text of a fault to a line that has the 10 bytes `tcpclkit: `.
+///
+/// The code of a bundle's fault comes before the text. `P1` is the code of a bundle that is too
+/// long.
 #[tactic(auto, unfolding(crate::specs::Fault::place_text))]
 fn put_place(line: &mut Line, fault: &Fault)
     requires { array_vec_len line.old ≤ 10 }

@@ -4,7 +4,7 @@ ghost use Rattle.std.specs.Prelude.{◌≡◌, ◌+◌, ◌≤◌, ◌++◌, len
 ghost use Rattle.arrayvec.specs.ArrayVec.{array_vec_len};
 ghost use Rattle.link_bundle_types.specs.EidView.{viewed_eid};
 ghost use Rattle.link_bundle_types.specs.BundleView.{viewed_info};
-ghost use Rattle.link_bundle_types.specs.ShortNames.{IsShort, HasShortNames};
+ghost use Rattle.link_bundle_types.specs.ShortNames.{HasNoLongName, HasShortNames};
 ghost use Rattle.link_report.specs.Eid.{eid_text};
 ghost use Rattle.link_report.specs.Identity.{fragment_text, origin_text, identity_text};
 ghost use Rattle.link_report.specs.Text.{escaped, number_text};
@@ -55,7 +55,7 @@ fn write_three(page: &mut [u8], at: usize, allocator: u64, node: u64, service: u
 #[tactic(auto, unfolding(crate::specs::Eid::eid_text))]
 #[inline(always)]
 pub fn write_eid(page: &mut [u8], at: usize, eid: &EidView<'_>) -> usize
-    requires short { IsShort (viewed_eid eid.now) }
+    requires short { HasNoLongName (viewed_eid eid.now) }
     requires room { at + EID_MAX ≤ length page.old }
     ensures { PutsText page.old page.new at result EID_MAX (eid_text (viewed_eid eid.now)) }
 {
@@ -75,7 +75,7 @@ pub fn write_eid(page: &mut [u8], at: usize, eid: &EidView<'_>) -> usize
 /// Writes the fragment offset and the total length of a fragment, and returns the index after them.
 #[cold]
 #[inline(never)]
-fn write_part(page: &mut [u8], at: usize, offset: u64, total: u64) -> usize
+fn write_fragment_numbers(page: &mut [u8], at: usize, offset: u64, total: u64) -> usize
     requires { at + FRAGMENT_MAX ≤ length page.old }
     ensures { PutsText page.old page.new at result FRAGMENT_MAX
         (number_text (codes " fragment=") offset ++ number_text (codes "/") total) }
@@ -93,18 +93,18 @@ pub fn write_fragment(page: &mut [u8], at: usize, fragment: Option<(u64, u64)>) 
     ensures { PutsText page.old page.new at result FRAGMENT_MAX (fragment_text fragment) }
 {
     match fragment {
-        Some((offset, total)) => write_part(page, at, offset, total),
+        Some((offset, total)) => write_fragment_numbers(page, at, offset, total),
         None => at,
     }
 }
 
 /// Writes a source and a creation timestamp, and returns the index after them.
 ///
-/// They take at most 23 bytes, an endpoint ID, and two numbers of at most 20 digits.
+/// The three labels take 23 bytes, and each of the two numbers takes at most 20.
 #[tactic(auto, unfolding(crate::specs::Identity::origin_text))]
 #[inline(always)]
 fn write_origin(page: &mut [u8], at: usize, source: &EidView<'_>, time: u64, sequence: u64) -> usize
-    requires short { IsShort (viewed_eid source.now) }
+    requires short { HasNoLongName (viewed_eid source.now) }
     requires room { at + EID_MAX + 63 ≤ length page.old }
     ensures { PutsText page.old page.new at result (EID_MAX + 63)
         (origin_text (viewed_eid source.now) time sequence) }
@@ -115,7 +115,8 @@ fn write_origin(page: &mut [u8], at: usize, source: &EidView<'_>, time: u64, seq
     write_number(page, at, *b" sequence=", sequence)
 }
 
-/// Writes what a line says of a bundle, and returns the index after it.
+/// Writes what a line says of a bundle: the source, the creation timestamp, the destination, the
+/// length of the payload, and the two numbers of a fragment. Returns the index after them.
 #[tactic(auto, unfolding(crate::specs::Identity::identity_text))]
 #[inline(always)]
 pub(crate) fn write_identity(page: &mut [u8], at: usize, info: &BundleView<'_>) -> usize
@@ -135,9 +136,9 @@ pub(crate) fn write_identity(page: &mut [u8], at: usize, info: &BundleView<'_>) 
 
 /// Appends an endpoint ID.
 ///
-/// It takes at most 4,100 bytes: 4 bytes, and a name of 1,024 bytes that are all escaped.
+/// It takes at most 4,100 bytes: `dtn:`, and 1,024 escapes of 4 bytes each.
 pub fn put_eid(line: &mut Line, eid: &EidView<'_>)
-    requires short { IsShort (viewed_eid eid.now) }
+    requires short { HasNoLongName (viewed_eid eid.now) }
     requires room { array_vec_len line.old + 4100 ≤ LINE_MAX }
     ensures items { line.new.items ≡ line.old.items ++ eid_text (viewed_eid eid.now) }
     ensures len { array_vec_len line.new ≤ array_vec_len line.old + 4100 }

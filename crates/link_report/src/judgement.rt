@@ -5,7 +5,7 @@ ghost use Rattle.link_bundle_types.specs.BundleView.{viewed_info, viewed_verdict
 ghost use Rattle.link_bundle_types.specs.ShortNames.{HasShortNames};
 ghost use Rattle.link_report.specs.BundleFault.{code_text};
 ghost use Rattle.link_report.specs.Text.{number_text};
-ghost use Rattle.link_report.specs.Judgement.{judged_transfer, outcome_text, good_text, judgement_text, viewed_judgement, IsShortJudgement};
+ghost use Rattle.link_report.specs.Judgement.{judged_transfer, outcome_text, good_text, judgement_text, viewed_judgement, HasOnlyShortNames};
 ghost use Rattle.link_report.specs.Written.{PutsText};
 
 use crate::bundle_fault::code_of;
@@ -59,7 +59,7 @@ impl Judgement {
     /// the judgement fits in a line.
     pub fn view(&self) -> JudgementView<'_>
         ensures view { viewed_judgement result ≡ self.now }
-        ensures short { IsShortJudgement self.now }
+        ensures short { HasOnlyShortNames self.now }
     {
         match self {
             Judgement::Abandoned => JudgementView::Abandoned,
@@ -75,8 +75,8 @@ impl Judgement {
 ///
 /// `abandoned` is whether another transfer began before the end of this one. `announced` is the
 /// announcement of its extension items, and `length` the number of its data bytes. `verdict` is the
-/// verdict on these bytes. An abandoned transfer is judged first, then the announced length, and
-/// then the verdict.
+/// verdict on these bytes. `abandoned` is considered first, then the announced length, and the
+/// verdict last.
 pub fn judge(
     abandoned: bool,
     announced: Announced,
@@ -96,8 +96,8 @@ pub fn judge(
 
 /// Judges a transfer as [`judge`] does, with the bundle by reference.
 ///
-/// By the clause `short`, the dtn names of the judgement have at most 1,024 bytes each if those of
-/// the verdict have.
+/// By the clause `short`, if each dtn name in the verdict has at most 1,024 bytes, then so does
+/// each dtn name in the judgement.
 #[inline(always)]
 pub fn judge_view<'a>(
     abandoned: bool,
@@ -108,7 +108,7 @@ pub fn judge_view<'a>(
     ensures judged { viewed_judgement result
         ≡ judged_transfer abandoned announced length (viewed_verdict verdict.entry) }
     ensures short { IfOk verdict.entry (λ view. HasShortNames (viewed_info view))
-        → IsShortJudgement (viewed_judgement result) }
+        → HasOnlyShortNames (viewed_judgement result) }
 {
     if abandoned {
         return JudgementView::Abandoned;
@@ -163,7 +163,7 @@ pub fn write_outcome(page: &mut [u8], at: usize, judgement: &JudgementView<'_>) 
 #[tactic(auto, unfolding(crate::specs::Judgement::good_text))]
 #[inline(always)]
 fn write_good(page: &mut [u8], at: usize, judgement: &JudgementView<'_>) -> usize
-    requires short { IsShortJudgement (viewed_judgement judgement.now) }
+    requires short { HasOnlyShortNames (viewed_judgement judgement.now) }
     requires room { at + 1 + IDENTITY_MAX ≤ length page.old }
     ensures { PutsText page.old page.new at result (1 + IDENTITY_MAX)
         (good_text (viewed_judgement judgement.now)) }
@@ -184,7 +184,7 @@ fn write_good(page: &mut [u8], at: usize, judgement: &JudgementView<'_>) -> usiz
 #[tactic(auto, unfolding(crate::specs::Judgement::judgement_text))]
 #[inline(always)]
 pub(crate) fn write_judgement(page: &mut [u8], at: usize, judgement: &JudgementView<'_>) -> usize
-    requires short { IsShortJudgement (viewed_judgement judgement.now) }
+    requires short { HasOnlyShortNames (viewed_judgement judgement.now) }
     requires room { at + JUDGEMENT_MAX ≤ length page.old }
     ensures { PutsText page.old page.new at result JUDGEMENT_MAX
         (judgement_text (viewed_judgement judgement.now)) }

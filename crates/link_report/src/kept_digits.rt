@@ -60,8 +60,9 @@ impl KeptDigits {
 
     /// Writes a number in decimal from `at` on, and returns the index after it.
     ///
-    /// If the kept digits are those of the number without its last four, the kept text is copied,
-    /// and only the last four digits are made. They are written over the four zeros at its end.
+    /// If the number differs from the kept multiple of 10,000 only in its last four digits, the
+    /// kept text is copied. The last four digits of the number are then written over the four zeros
+    /// at the end of the copy.
     #[inline(always)]
     pub(crate) fn write(&self, page: &mut [u8], at: usize, number: u64) -> usize
         requires { at + 20 ≤ length page.old }

@@ -16,7 +16,7 @@ use link_wire::{
 };
 
 /// The greatest length of a list's text in bytes: 27, plus 34 for each item.
-const ITEMS_MAX: usize = 27 + 34 * MAX_ITEMS;
+const ITEMS_TEXT_MAX: usize = 27 + 34 * MAX_ITEMS;
 
 /// A bound on the line of a message with a reason, between its offset and its newline.
 ///
@@ -26,7 +26,7 @@ const REASON_MAX: usize = 80;
 /// The greatest length in bytes of a line between its offset and its newline.
 ///
 /// A SESS_INIT can have this length: 114 bytes, the node ID with each byte escaped, and the list.
-const BODY_MAX: usize = 114 + 4 * MAX_NODE_ID + ITEMS_MAX;
+const BODY_MAX: usize = 114 + 4 * MAX_NODE_ID + ITEMS_TEXT_MAX;
 
 /// Writes ` reason=`, the code of a reason, `/` and its name: 11 bytes and the name. Returns the
 /// index after them.
@@ -43,7 +43,8 @@ fn write_reason(page: &mut [u8], at: usize, reason: u8, name: &str) -> usize
     write_text(page, at, name)
 }
 
-/// Writes ` item=`, the flags, the type and the length of an extension item.
+/// Writes ` item=`, and the flags, the type and the length of an extension item, with `:` between
+/// them.
 ///
 /// It takes 14 bytes and a number of at most 20 digits.
 #[tactic(auto, unfolding(crate::specs::Message::item_text))]
@@ -63,9 +64,9 @@ fn write_item(page: &mut [u8], at: usize, item: &Item) -> usize
 #[inline(never)]
 #[tactic(auto, unfolding(crate::specs::Message::items_text))]
 fn write_items(page: &mut [u8], at: usize, items: &[Item]) -> usize
-    requires room { at + ITEMS_MAX ≤ length page.old }
+    requires room { at + ITEMS_TEXT_MAX ≤ length page.old }
     requires items { length items.now ≤ MAX_ITEMS }
-    ensures { PutsText page.old page.new at result ITEMS_MAX (items_text items.now) }
+    ensures { PutsText page.old page.new at result ITEMS_TEXT_MAX (items_text items.now) }
 {
     let mut end = write_number(page, at, *b" items=", items.len() as u64);
     for item in items {
@@ -110,9 +111,10 @@ fn write_session(
 #[tactic(auto, using(crate::proofs::Segments::no_items), unfolding(crate::specs::Message::start_items_text))]
 #[inline(always)]
 fn write_start_items(page: &mut [u8], at: usize, flags: u8, items: &[Item]) -> usize
-    requires room { at + ITEMS_MAX ≤ length page.old }
+    requires room { at + ITEMS_TEXT_MAX ≤ length page.old }
     requires items { length items.now ≤ MAX_ITEMS }
-    ensures { PutsText page.old page.new at result ITEMS_MAX (start_items_text flags items.now) }
+    ensures { PutsText page.old page.new at result ITEMS_TEXT_MAX
+        (start_items_text flags items.now) }
 {
     if flags & START != START {
         return at;
@@ -313,7 +315,7 @@ fn put_plain(line: &mut Line, offset: u64, fields: Fields)
     put_fields(line, offset, &fields, &[], &[]);
 }
 
-/// Writes the line of a message into an empty line; its type byte is at `offset`.
+/// Writes the line of the message whose type byte is at `offset` into an empty line.
 #[tactic(auto, using(crate::proofs::Segments::text_of_segment), unfolding(crate::specs::Message::message_text, crate::specs::Message::body_text))]
 pub fn message_line(line: &mut Line, offset: u64, message: &Message)
     requires { line.old.items ≡ [] }

@@ -58,7 +58,7 @@ fn write_counted(page: &mut [u8], at: usize, number: u64, count: usize) -> usize
     end
 }
 
-/// Writes a number of more than three digits, and so of at most 20.
+/// Writes a number of 4 to 20 digits.
 #[tactic(auto, using(crate::proofs::Digits::length_of_decimal, crate::proofs::Digits::length_from_power))]
 #[inline(never)]
 fn write_long(page: &mut [u8], at: usize, number: u64) -> usize
@@ -72,9 +72,9 @@ fn write_long(page: &mut [u8], at: usize, number: u64) -> usize
 
 /// Writes `number` in decimal, without leading zeros, and returns the index after it.
 ///
-/// There has to be room for 20 digits. Most numbers in a line are below 1,000, apart from its
-/// offset. They have arms of their own: with a constant number of digits, the compiler unrolls the
-/// loop of `write_counted` into plain stores.
+/// There has to be room for 20 digits. Most numbers in a line are below 1,000. In the arms for
+/// these, the number of digits is a constant. So the compiler unrolls the loop of `write_counted`
+/// into plain stores.
 #[tactic(auto, using(crate::proofs::Digits::few_digits))]
 #[inline(always)]
 pub fn write_decimal(page: &mut [u8], at: usize, number: u64) -> usize
@@ -150,9 +150,8 @@ fn write_escaped_byte(page: &mut [u8], at: usize, byte: u8) -> usize
     write_hex2(page, at, byte)
 }
 
-/// Writes `bytes`, where each byte that is not plain becomes an escape.
-///
-/// It takes at most 4 bytes for each of them.
+/// Writes `bytes`, with an escape of 4 bytes in place of each byte that is not plain. Returns the
+/// index after them.
 #[cold]
 #[inline(never)]
 #[tactic(auto, unfolding(crate::specs::Text::escaped))]

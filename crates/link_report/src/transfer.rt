@@ -1,8 +1,8 @@
 //! The lines of transfers.
 
 ghost use Rattle.std.specs.Prelude.{◌≡◌, ◌+◌, ◌≤◌, [], length};
-ghost use Rattle.link_report.specs.Judgement.{viewed_judgement, IsShortJudgement};
-ghost use Rattle.link_report.specs.ShortNames.{IsShortJudgement-prop};
+ghost use Rattle.link_report.specs.Judgement.{viewed_judgement, HasOnlyShortNames};
+ghost use Rattle.link_report.specs.ShortNames.{HasOnlyShortNames-prop};
 ghost use Rattle.link_report.specs.Transfer.{extent_text, transfer_text, viewed_transfer};
 ghost use Rattle.link_report.specs.Written.{PutsText};
 
@@ -45,13 +45,14 @@ pub struct TransferView<'a> {
 #[derive(Drop)]
 pub struct TransferText<'a> {
     pub entry: TransferView<'a>,
-    ghost short: { IsShortJudgement (viewed_judgement entry.judgement) } by { IsShortJudgement-prop (viewed_judgement entry.judgement) },
+    ghost short: { HasOnlyShortNames (viewed_judgement entry.judgement) } by { HasOnlyShortNames-prop (viewed_judgement entry.judgement) },
 }
 
-/// Writes a transfer's ID, the offset of its bytes in the output, their number there, and the
-/// number of its data bytes. Returns the index after them.
+/// Writes the ID and the extent of a transfer, and returns the index after them.
 ///
-/// They take at most 33 bytes, and four numbers of at most 20 digits.
+/// The output contains `written` bytes of the transfer, from the offset `start` on. `size` is the
+/// number of its data bytes. The text takes at most 33 bytes, and four numbers of at most 20
+/// digits.
 #[tactic(auto, unfolding(crate::specs::Transfer::extent_text))]
 #[inline(always)]
 fn write_extent(page: &mut [u8], at: usize, id: u64, start: u64, written: u64, size: u64) -> usize
@@ -70,7 +71,7 @@ fn write_extent(page: &mut [u8], at: usize, id: u64, start: u64, written: u64, s
 #[tactic(auto, unfolding(crate::specs::Transfer::transfer_text))]
 #[inline(never)]
 fn write_transfer(page: &mut [u8], at: usize, entry: &TransferView<'_>) -> usize
-    requires short { IsShortJudgement (viewed_judgement entry.now.judgement) }
+    requires short { HasOnlyShortNames (viewed_judgement entry.now.judgement) }
     requires room { at + TEXT_MAX ≤ length page.old }
     ensures { PutsText page.old page.new at result TEXT_MAX
         (transfer_text (viewed_transfer entry.now)) }
@@ -95,7 +96,7 @@ impl<'a> Text for TransferText<'a> {
 /// The names in the source and destination of a good bundle have at most 1,024 bytes each.
 pub fn transfer_view_line(line: &mut Line, entry: &TransferView<'_>)
     requires empty { line.old.items ≡ [] }
-    requires short { IsShortJudgement (viewed_judgement entry.now.judgement) }
+    requires short { HasOnlyShortNames (viewed_judgement entry.now.judgement) }
     ensures { line.new.items ≡ transfer_text (viewed_transfer entry.now) }
 {
     put_whole(line, &TransferText { entry: *entry });

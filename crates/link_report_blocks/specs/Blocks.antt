@@ -50,7 +50,8 @@ unfoldable pub block_text : ℕ → CanonicalBlock → Option (Result BlockData 
 block_text id block found =
     decimal id ++ fields_text block ++ words_text block.data_start found ++ newline
 
--- the line of the end of a transfer or a bundle, with the number of its bytes
+-- The line of the end of a transfer or of a good bundle, with the number of its bytes and the
+-- outcome. It does not identify a good bundle.
 unfoldable pub end_text : ℕ → ℕ → Judgement → List ℕ
 end_text id size judgement =
     decimal id ++ number_text (codes " end length=") size ++ codes " " ++ outcome_text judgement

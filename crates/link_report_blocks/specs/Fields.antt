@@ -23,7 +23,8 @@ check_text None = codes "none"
 check_text (Some Crc16) = codes "crc16"
 check_text (Some Crc32) = codes "crc32c"
 
--- the processing control flags of a block or of its bundle and the check of the block, with labels
+-- The processing control flags and the check of a block, with labels. For a primary block, the
+-- flags are the ones of the bundle.
 unfoldable pub control_text : ℕ → Option CheckKind → List ℕ
 control_text flags check =
     codes " flags=" ++ flags_text flags ++ codes " check=" ++ check_text check

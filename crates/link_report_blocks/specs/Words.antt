@@ -41,7 +41,7 @@ assertion_text No = codes "no"
 assertion_text Yes = codes "yes"
 assertion_text (YesAt time) = decimal time
 
--- the statuses and the reason of a status report (RFC 9171 section 6.1.1)
+-- the statuses of a status report, and the code and the name of its reason (RFC 9171 section 6.1.1)
 unfoldable pub statuses_text : Report → List ℕ
 statuses_text report =
     codes " received=" ++ assertion_text report.received
@@ -50,7 +50,8 @@ statuses_text report =
     ++ codes " deleted=" ++ assertion_text report.deleted
     ++ number_text (codes " reason=") report.reason ++ codes "/" ++ name_in report_names report.reason
 
--- the payload of a fragment that a status report is about: its offset and its length
+-- If a status report is about a fragment, the offset and the length of the fragment's payload. For
+-- a report on a whole bundle, nothing.
 unfoldable pub subject_fragment : Option (ℕ × ℕ) → List ℕ
 subject_fragment None = []
 subject_fragment (Some (offset, size)) =
@@ -62,7 +63,8 @@ subject_text report source =
     codes " of-source=" ++ eid_text source ++ number_text (codes " of-time=") report.time
     ++ number_text (codes " of-sequence=") report.sequence ++ subject_fragment report.fragment
 
--- the words for what the data of a block says
+-- The words for what the data of a block says. Of the targets of a security block, they only say
+-- how many there are.
 unfoldable pub data_text : BlockData → List ℕ
 data_text (PreviousNode node) = codes " node=" ++ eid_text node
 data_text (BundleAge age) = number_text (codes " age=") age

@@ -66,7 +66,10 @@ pub struct EndText<'a> {
     pub judgement: &'a JudgementView<'a>,
 }
 
-/// Writes the line of a primary block up to its source, and returns the index after the text.
+/// Writes the line of a primary block up to and with its source, and returns the index after the
+/// text.
+///
+/// The block begins at offset 1, after the opening byte of its bundle.
 #[tactic(auto, unfolding(crate::specs::Blocks::primary_start_text))]
 #[inline(never)]
 fn write_primary_start(page: &mut [u8], at: usize, id: u64, block: &PrimaryBlock<'_>) -> usize
@@ -143,8 +146,8 @@ fn write_block(page: &mut [u8], at: usize, line: &BlockText<'_>) -> usize
     write_bytes(page, at, *b"\n")
 }
 
-/// Writes the line of the end of a transfer or of a good bundle, and returns the index after the
-/// line.
+/// Writes the line of the end of a transfer or of a good bundle, with its length and its outcome,
+/// and returns the index after the line.
 #[tactic(auto, unfolding(crate::specs::Blocks::end_text))]
 #[inline(never)]
 fn write_end(page: &mut [u8], at: usize, line: &EndText<'_>) -> usize

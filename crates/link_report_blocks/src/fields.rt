@@ -15,7 +15,7 @@ pub(crate) const CONTROL_MAX: usize = 36;
 /// The greatest length in bytes of the text of a block type.
 pub(crate) const TYPE_MAX: usize = 30;
 
-/// The bytes from the first that is not zero on, or the last byte if all are zero.
+/// The bytes without their leading zeros, or the last byte if all are zero.
 fn significant(bytes: &[u8]) -> &[u8]
     requires { 0 < length bytes.now }
     ensures bytes { result.now ≡ significant bytes.now }
@@ -28,7 +28,9 @@ fn significant(bytes: &[u8]) -> &[u8]
     &bytes[first..]
 }
 
-/// Writes flags of more than one byte, as `write_flags` does.
+/// Writes flags in pairs of hexadecimal digits, without leading pairs of zeros.
+///
+/// [`write_flags`] calls it for flags of more than one byte.
 #[inline(never)]
 #[tactic(auto, unfolding(crate::specs::Fields::flags_text))]
 fn write_long_flags(page: &mut [u8], at: usize, flags: u64) -> usize
@@ -45,6 +47,8 @@ fn write_long_flags(page: &mut [u8], at: usize, flags: u64) -> usize
 }
 
 /// Writes flags in pairs of hexadecimal digits, without a label, and returns the index after them.
+///
+/// Leading pairs of zeros are left out, but there is at least one pair.
 #[inline(always)]
 pub fn write_flags(page: &mut [u8], at: usize, flags: u64) -> usize
     requires { at + 16 ≤ length page.old }

@@ -6,7 +6,7 @@
 
 ghost use Rattle.std.specs.Prelude.{◌≡◌, ◌+◌, ◌≤◌, ◌++◌, length, take, codes, decimal, option_map};
 ghost use Rattle.link_bundle_types.specs.EidView.{viewed_eid};
-ghost use Rattle.link_bundle_types.specs.ShortNames.{IsShort};
+ghost use Rattle.link_bundle_types.specs.ShortNames.{HasNoLongName};
 ghost use Rattle.link_bundle_data.specs.DataView.{viewed_data, viewed_result, HasShortName};
 ghost use Rattle.link_report.specs.Eid.{eid_text};
 ghost use Rattle.link_report.specs.Reason.{name_in};
@@ -28,10 +28,10 @@ const CONTEXT_MAX: usize = 61;
 const STATUSES_MAX: usize = 184;
 
 /// The greatest length in bytes of the text of the fragment that a status report is about.
-const PART_MAX: usize = 54;
+const SUBJECT_FRAGMENT_MAX: usize = 54;
 
 /// The greatest length in bytes of the text of the bundle that a status report is about.
-const SUBJECT_MAX: usize = 73 + EID_MAX + PART_MAX;
+const SUBJECT_MAX: usize = 73 + EID_MAX + SUBJECT_FRAGMENT_MAX;
 
 /// The greatest length in bytes of the words for a block's data: those for a status report.
 pub const WORDS_MAX: usize = 23 + STATUSES_MAX + SUBJECT_MAX;
@@ -126,7 +126,7 @@ fn write_assertion<const N: usize>(
     }
 }
 
-/// Writes the statuses and the reason of a status report.
+/// Writes the statuses of a status report, and the code and the name of its reason.
 #[tactic(auto, unfolding(crate::specs::Words::statuses_text))]
 fn write_statuses(page: &mut [u8], at: usize, report: &Report) -> usize
     requires { at + STATUSES_MAX ≤ length page.old }
@@ -146,10 +146,10 @@ fn write_statuses(page: &mut [u8], at: usize, report: &Report) -> usize
 /// Writes the offset and the length of the fragment that a status report is about. For a report on
 /// a whole bundle, it writes nothing.
 #[tactic(auto, unfolding(crate::specs::Words::subject_fragment))]
-fn write_part(page: &mut [u8], at: usize, fragment: Option<(u64, u64)>) -> usize
-    requires { at + PART_MAX ≤ length page.old }
+fn write_subject_fragment(page: &mut [u8], at: usize, fragment: Option<(u64, u64)>) -> usize
+    requires { at + SUBJECT_FRAGMENT_MAX ≤ length page.old }
     ensures text { take result page.new ≡ take at page.old ++ subject_fragment fragment }
-    ensures fits { result ≤ at + PART_MAX }
+    ensures fits { result ≤ at + SUBJECT_FRAGMENT_MAX }
     ensures size { length page.new ≡ length page.old }
 {
     match fragment {
@@ -164,7 +164,7 @@ fn write_part(page: &mut [u8], at: usize, fragment: Option<(u64, u64)>) -> usize
 /// Writes which bundle a status report is about: its source, its timestamp and its fragment.
 #[tactic(auto, unfolding(crate::specs::Words::subject_text))]
 fn write_subject(page: &mut [u8], at: usize, report: &Report, source: &EidView<'_>) -> usize
-    requires short { IsShort (viewed_eid source.now) }
+    requires short { HasNoLongName (viewed_eid source.now) }
     requires room { at + SUBJECT_MAX ≤ length page.old }
     ensures text { take result page.new
         ≡ take at page.old ++ subject_text report.now (viewed_eid source.now) }
@@ -175,13 +175,13 @@ fn write_subject(page: &mut [u8], at: usize, report: &Report, source: &EidView<'
     let at = write_eid(page, at, source);
     let at = write_number(page, at, *b" of-time=", report.time);
     let at = write_number(page, at, *b" of-sequence=", report.sequence);
-    write_part(page, at, report.fragment)
+    write_subject_fragment(page, at, report.fragment)
 }
 
 /// Writes the words of a status report.
 #[inline(never)]
 fn write_report(page: &mut [u8], at: usize, report: &Report, source: &EidView<'_>) -> usize
-    requires short { IsShort (viewed_eid source.now) }
+    requires short { HasNoLongName (viewed_eid source.now) }
     requires room { at + WORDS_MAX ≤ length page.old }
     ensures text { take result page.new ≡ take at page.old ++ codes " record=1/status-report"
         ++ statuses_text report.now ++ subject_text report.now (viewed_eid source.now) }
@@ -196,7 +196,7 @@ fn write_report(page: &mut [u8], at: usize, report: &Report, source: &EidView<'_
 /// Writes the words of a security block.
 #[inline(never)]
 fn write_security(page: &mut [u8], at: usize, block: &SecurityBlock, source: &EidView<'_>) -> usize
-    requires short { IsShort (viewed_eid source.now) }
+    requires short { HasNoLongName (viewed_eid source.now) }
     requires room { at + WORDS_MAX ≤ length page.old }
     ensures { PutsText page.old page.new at result WORDS_MAX
         (number_text (codes " targets=") block.now.targets ++ context_text block.now

@@ -21,8 +21,9 @@ subject_text (Message rule) = []
 subject_text (Transfer id rule) = place_text (place.Transfer id)
 subject_text (Bundle place rule) = place_text place
 
--- The line of a broken rule. The offset is that of the message, of the message with which the
--- transfer begins, or of the bundle in an input of bundles.
+-- The line of a broken rule. `offset` is where the message begins that breaks the rule. For a rule
+-- of a transfer, or of the bundle in it, it is where the first message of the transfer begins. For
+-- a bundle in an input of bundles, it is where the bundle begins.
 unfoldable pub rule_line : (offset : ℕ) → BrokenRule → List ℕ
 rule_line offset rule =
     decimal offset ++ codes " " ++ level_name (rule_level rule) ++ codes " " ++ rule_name rule

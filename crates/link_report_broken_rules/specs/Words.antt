@@ -1,10 +1,10 @@
--- The words of rules: what broke a rule.
+-- The words of rules: what broke a rule. A value comes after its label, such as ` id=`.
 
 use Rattle.std.specs.Prelude.{ℕ, ◌==◌, List, [], ◌++◌, map, codes, Option, Some, None, if◌then◌else◌}
 use Rattle.link_bundle_types.specs.declared.fault.BundleFault.{BundleFault}
 use Rattle.link_transfer.specs.declared.fault.OrderFault.{OrderFault}
 use Rattle.link_session_rules.specs.declared.rule.{AnswerFault.AnswerFault, MessageRule.MessageRule}
-use Rattle.link_session_rules.specs.declared.rule.AnswerFault.TheVariants.{NotTheLast, StartRepeats, AfterEnd, AfterRefusal, RefusedAfterEnd}
+use Rattle.link_session_rules.specs.declared.rule.AnswerFault.TheVariants.{NotTheLast, StartRepeats, AfterStop, AfterRefusal, RefusedAfterEnd}
 use Rattle.link_session_rules.specs.declared.rule.MessageRule.TheVariants as message
 use Rattle.link_session_rules.specs.declared.rule.TransferRule.{TransferRule}
 use Rattle.link_session_rules.specs.declared.rule.TransferRule.TheVariants as transfer
@@ -25,15 +25,15 @@ use Rattle.link_report_broken_rules.specs.declared.rule.BrokenRule.TheVariants.{
 unfoldable pub hyphenated : List ℕ → List ℕ
 hyphenated text = map (λ byte. if byte == 0x20 then 0x2d else byte) text
 
--- a fault of the order of messages, as one word
-unfoldable pub order_words : OrderFault → List ℕ
-order_words fault = codes " fault=" ++ hyphenated (order_text fault)
+-- the label ` fault=`, and a fault of the order of messages with hyphens for its spaces
+unfoldable pub order_field : OrderFault → List ℕ
+order_field fault = codes " fault=" ++ hyphenated (order_text fault)
 
 -- the word for what is wrong with an answer
 unfoldable pub answer_text : AnswerFault → List ℕ
 answer_text NotTheLast = codes "not-the-last"
 answer_text StartRepeats = codes "start-repeats"
-answer_text AfterEnd = codes "after-end"
+answer_text AfterStop = codes "after-end"
 answer_text AfterRefusal = codes "after-refusal"
 answer_text RefusedAfterEnd = codes "refused-after-end"
 
@@ -42,7 +42,7 @@ unfoldable pub message_words : MessageRule → List ℕ
 message_words (message.ContactFlags flags) = flags_text flags
 message_words (message.NodeId size) = number_text (codes " length=") size
 message_words (message.ItemFlags item flags) = number_text (codes " item=") item ++ flags_text flags
-message_words (message.Order fault level) = order_words fault
+message_words (message.Order fault level) = order_field fault
 message_words (message.BeforeSession type) = codes " type=" ++ hex2 type
 message_words (message.Interleaved id open_id) =
     number_text (codes " id=") id ++ number_text (codes " open=") open_id
@@ -72,9 +72,9 @@ message_words (message.Reason type reason) =
     codes " type=" ++ hex2 type ++ codes " reason=" ++ hex2 reason
 message_words (message.TermOrder type) = codes " type=" ++ hex2 type
 
--- the code of a fault of a bundle, and its offset in the bundle
-unfoldable pub fault_words : BundleFault → ℕ → List ℕ
-fault_words fault byte = codes " code=" ++ code_text fault ++ number_text (codes " byte=") byte
+-- the code of a fault of a bundle, and its offset in the bundle, each after its label
+unfoldable pub fault_fields : BundleFault → ℕ → List ℕ
+fault_fields fault byte = codes " code=" ++ code_text fault ++ number_text (codes " byte=") byte
 
 -- what the line of a broken rule of transfers says after the transfer's ID
 unfoldable pub transfer_words : TransferRule → List ℕ
@@ -83,14 +83,14 @@ transfer_words transfer.LengthItem = []
 transfer_words (transfer.LengthDiffers announced size) =
     number_text (codes " announced=") announced ++ number_text (codes " length=") size
 transfer_words transfer.LengthOfOneSegment = []
-transfer_words (transfer.Bundle fault byte) = fault_words fault byte
-transfer_words (transfer.NotRead fault byte) = fault_words fault byte
+transfer_words (transfer.Bundle fault byte) = fault_fields fault byte
+transfer_words (transfer.NotRead fault byte) = fault_fields fault byte
 
--- the flags of a bundle or of a block, as in the lines of blocks
-unfoldable pub control_words : ℕ → List ℕ
-control_words flags = codes " flags=" ++ fields.flags_text flags
+-- the label ` flags=`, and the flags of a bundle or of a block, as in the lines of blocks
+unfoldable pub control_field : ℕ → List ℕ
+control_field flags = codes " flags=" ++ fields.flags_text flags
 
--- the word for the part of a bundle whose endpoint ID breaks a rule
+-- the word for the role of an endpoint ID in its bundle
 unfoldable pub endpoint_name : Endpoint → List ℕ
 endpoint_name Destination = codes "destination"
 endpoint_name Source = codes "source"
@@ -99,32 +99,33 @@ endpoint_name (PreviousNode block) = codes "previous-node"
 endpoint_name (SecuritySource block) = codes "security-source"
 endpoint_name ReportSource = codes "report-source"
 
--- the number of the block that has the endpoint ID, if it is of a kind that several blocks may have
+-- The number of the block that contains the endpoint ID, if a bundle can have several such blocks.
+-- Otherwise nothing is written.
 unfoldable pub endpoint_block : Endpoint → List ℕ
 endpoint_block (PreviousNode block) = number_text (codes " block=") block
 endpoint_block (SecuritySource block) = number_text (codes " block=") block
 endpoint_block _ = []
 
--- a hop limit, if one is given
-unfoldable pub limit_words : Option ℕ → List ℕ
-limit_words None = []
-limit_words (Some limit) = number_text (codes " limit=") limit
+-- the label ` limit=` and the hop limit, if one was read from the first hop count block
+unfoldable pub limit_field : Option ℕ → List ℕ
+limit_field None = []
+limit_field (Some limit) = number_text (codes " limit=") limit
 
--- a target, if there is one
-unfoldable pub target_words : Option ℕ → List ℕ
-target_words None = []
-target_words (Some target) = number_text (codes " target=") target
+-- the label ` target=` and the target that breaks a rule, if the security block has targets
+unfoldable pub target_field : Option ℕ → List ℕ
+target_field None = []
+target_field (Some target) = number_text (codes " target=") target
 
 -- what the line of a broken rule of bundles says after the bundle's place
 unfoldable pub bundle_words : BundleRule → List ℕ
 bundle_words (bundle.LongHead byte level) = number_text (codes " byte=") byte
-bundle_words (bundle.BundleFlags flags) = control_words flags
+bundle_words (bundle.BundleFlags flags) = control_field flags
 bundle_words (bundle.PrimaryCheck level) = []
-bundle_words (bundle.Anonymous flags) = control_words flags
-bundle_words (bundle.RecordReports flags) = control_words flags
+bundle_words (bundle.Anonymous flags) = control_field flags
+bundle_words (bundle.RecordReports flags) = control_field flags
 bundle_words (bundle.BlockReports block) = number_text (codes " block=") block
 bundle_words (bundle.BlockFlags block flags) =
-    number_text (codes " block=") block ++ control_words flags
+    number_text (codes " block=") block ++ control_field flags
 bundle_words (bundle.DtnName of) = codes " of=" ++ endpoint_name of ++ endpoint_block of
 bundle_words (bundle.Fragment offset size total) =
     number_text (codes " offset=") offset ++ number_text (codes " length=") size
@@ -133,7 +134,7 @@ bundle_words (bundle.WholeFragment total) = number_text (codes " total=") total
 bundle_words (bundle.Age blocks level) = number_text (codes " blocks=") blocks
 bundle_words (bundle.PreviousNode blocks) = number_text (codes " blocks=") blocks
 bundle_words (bundle.HopCount blocks limit) =
-    number_text (codes " blocks=") blocks ++ limit_words limit
+    number_text (codes " blocks=") blocks ++ limit_field limit
 bundle_words (bundle.ConfidentialPrimary block) = number_text (codes " block=") block
 bundle_words (bundle.Hops limit count) =
     number_text (codes " limit=") limit ++ number_text (codes " count=") count
@@ -154,11 +155,11 @@ bundle_words bundle.ReportEmpty = []
 bundle_words (bundle.ReportReason reason) = number_text (codes " reason=") reason
 bundle_words bundle.ReportSource = []
 bundle_words (bundle.SecurityTargets block target level) =
-    number_text (codes " block=") block ++ target_words target
+    number_text (codes " block=") block ++ target_field target
 bundle_words (bundle.SecurityTwice block target) =
     number_text (codes " block=") block ++ number_text (codes " target=") target
 bundle_words (bundle.SecurityFlags block flags) =
-    number_text (codes " block=") block ++ control_words flags
+    number_text (codes " block=") block ++ control_field flags
 bundle_words (bundle.SecurityContext block context) =
     number_text (codes " block=") block ++ codes " context=" ++ integer_text context
 bundle_words (bundle.IntegrityTarget block target) =
@@ -166,7 +167,7 @@ bundle_words (bundle.IntegrityTarget block target) =
 bundle_words (bundle.ConfidentialTarget block target) =
     number_text (codes " block=") block ++ number_text (codes " target=") target
 bundle_words (bundle.ConfidentialFlags block flags) =
-    number_text (codes " block=") block ++ control_words flags
+    number_text (codes " block=") block ++ control_field flags
 bundle_words (bundle.ConfidentialContext block) = number_text (codes " block=") block
 bundle_words (bundle.SharedTarget block target) =
     number_text (codes " block=") block ++ number_text (codes " target=") target

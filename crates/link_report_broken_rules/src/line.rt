@@ -41,7 +41,8 @@ fn write_place(page: &mut [u8], at: usize, place: BundlePlace) -> usize
     }
 }
 
-/// Writes the words for the transfer or the bundle that breaks a rule.
+/// Writes the words for the transfer or the bundle that breaks a rule. For a rule of messages there
+/// are none.
 #[tactic(auto, unfolding(crate::specs::Line::subject_text))]
 fn write_subject(page: &mut [u8], at: usize, rule: &BrokenRule) -> usize
     requires { at + SUBJECT_MAX ≤ length page.old }

@@ -1,13 +1,14 @@
 //! The words of rules: what broke a rule.
 //!
-//! Each function writes to a page from the index `at` on, and returns the index after its text.
+//! Each function writes to a page from the index `at` on, and returns the index after its text. A
+//! value comes after its label, such as ` id=`.
 
 ghost use Rattle.std.specs.Prelude.{◌≡◌, ◌+◌, ◌≤◌, ◌++◌, length, take, codes, decimal};
 ghost use Rattle.link_report_blocks.specs.Words.{integer_text};
 ghost use Rattle.link_report.specs.Message.{flags_text};
 ghost use Rattle.link_report.specs.Text.{hex2, hex4, number_text};
 ghost use Rattle.link_report.specs.Written.{PutsText};
-ghost use Rattle.link_report_broken_rules.specs.Words.{answer_text, hyphenated, order_words, message_words, fault_words, transfer_words, control_words, endpoint_name, endpoint_block, limit_words, target_words, bundle_words, rule_words};
+ghost use Rattle.link_report_broken_rules.specs.Words.{answer_text, hyphenated, order_field, message_words, fault_fields, transfer_words, control_field, endpoint_name, endpoint_block, limit_field, target_field, bundle_words, rule_words};
 
 use crate::rule::BrokenRule;
 use itoa::Buffer;
@@ -98,7 +99,7 @@ fn answer_text(fault: AnswerFault) -> &'static str
     match fault {
         AnswerFault::NotTheLast => "not-the-last",
         AnswerFault::StartRepeats => "start-repeats",
-        AnswerFault::AfterEnd => "after-end",
+        AnswerFault::AfterStop => "after-end",
         AnswerFault::AfterRefusal => "after-refusal",
         AnswerFault::RefusedAfterEnd => "refused-after-end",
     }
@@ -131,11 +132,11 @@ fn write_hyphenated(page: &mut [u8], at: usize, text: &str) -> usize
     end
 }
 
-/// Writes a fault of the order of messages, as one word.
-#[tactic(auto, unfolding(crate::specs::Words::order_words))]
+/// Writes the label ` fault=`, and a fault of the order of messages with hyphens for its spaces.
+#[tactic(auto, unfolding(crate::specs::Words::order_field))]
 fn write_order(page: &mut [u8], at: usize, fault: OrderFault) -> usize
     requires { at + ORDER_MAX ≤ length page.old }
-    ensures { PutsText page.old page.new at result ORDER_MAX (order_words fault) }
+    ensures { PutsText page.old page.new at result ORDER_MAX (order_field fault) }
 {
     let at = write_bytes(page, at, *b" fault=");
     write_hyphenated(page, at, order_words(fault))
@@ -184,6 +185,7 @@ fn write_message(page: &mut [u8], at: usize, rule: &MessageRule) -> usize
         MessageRule::AckLength { length, before } => {
             write_two(page, at, *b" length=", length, *b" before=", before)
         }
+        // The name of the rule says all.
         MessageRule::Keepalive => at,
         MessageRule::NodeName { length, .. } => write_number(page, at, *b" length=", length),
         MessageRule::KeepaliveInterval { interval } => {
@@ -210,10 +212,10 @@ fn write_message(page: &mut [u8], at: usize, rule: &MessageRule) -> usize
 }
 
 /// Writes the code of a fault of a bundle, and its offset in the bundle.
-#[tactic(auto, unfolding(crate::specs::Words::fault_words))]
+#[tactic(auto, unfolding(crate::specs::Words::fault_fields))]
 fn write_fault(page: &mut [u8], at: usize, fault: BundleFault, byte: u64) -> usize
     requires { at + WORDS_MAX ≤ length page.old }
-    ensures { PutsText page.old page.new at result WORDS_MAX (fault_words fault byte) }
+    ensures { PutsText page.old page.new at result WORDS_MAX (fault_fields fault byte) }
 {
     let at = write_bytes(page, at, *b" code=");
     let at = write_text(page, at, code_of(fault));
@@ -231,6 +233,7 @@ fn write_transfer(page: &mut [u8], at: usize, rule: &TransferRule) -> usize
         TransferRule::LengthDiffers { announced, length } => {
             write_two(page, at, *b" announced=", announced, *b" length=", length)
         }
+        // The name of the rule says all.
         TransferRule::LengthItem | TransferRule::LengthOfOneSegment => at,
         TransferRule::Bundle { fault, byte } | TransferRule::NotRead { fault, byte } => {
             write_fault(page, at, fault, byte)
@@ -238,17 +241,17 @@ fn write_transfer(page: &mut [u8], at: usize, rule: &TransferRule) -> usize
     }
 }
 
-/// Writes the flags of a bundle or of a block.
-#[tactic(auto, unfolding(crate::specs::Words::control_words))]
+/// Writes the label ` flags=`, and the flags of a bundle or of a block.
+#[tactic(auto, unfolding(crate::specs::Words::control_field))]
 fn write_control(page: &mut [u8], at: usize, flags: u64) -> usize
     requires { at + CONTROL_MAX ≤ length page.old }
-    ensures { PutsText page.old page.new at result CONTROL_MAX (control_words flags) }
+    ensures { PutsText page.old page.new at result CONTROL_MAX (control_field flags) }
 {
     let at = write_bytes(page, at, *b" flags=");
     write_flags(page, at, flags)
 }
 
-/// The word for the part of a bundle whose endpoint ID breaks a rule.
+/// The word for the role of an endpoint ID in its bundle.
 #[tactic(auto, unfolding(crate::specs::Words::endpoint_name))]
 fn endpoint_name(endpoint: Endpoint) -> &'static str
     ensures text { result.now ≡ endpoint_name endpoint }
@@ -264,8 +267,8 @@ fn endpoint_name(endpoint: Endpoint) -> &'static str
     }
 }
 
-/// Writes the number of the block that has an endpoint ID, if it is of a kind that several blocks
-/// may have.
+/// Writes the number of the block that contains the endpoint ID, if a bundle can have several such
+/// blocks. Otherwise it writes nothing.
 #[tactic(auto, unfolding(crate::specs::Words::endpoint_block))]
 fn write_endpoint_block(page: &mut [u8], at: usize, endpoint: Endpoint) -> usize
     requires { at + 27 ≤ length page.old }
@@ -279,7 +282,8 @@ fn write_endpoint_block(page: &mut [u8], at: usize, endpoint: Endpoint) -> usize
     }
 }
 
-/// Writes the name of an endpoint ID, and the number of its block if it needs one.
+/// Writes the role of an endpoint ID in its bundle, and the number of the block that contains it,
+/// if a bundle can have several such blocks.
 fn write_endpoint(page: &mut [u8], at: usize, endpoint: Endpoint) -> usize
     requires { at + WORDS_MAX ≤ length page.old }
     ensures { PutsText page.old page.new at result WORDS_MAX
@@ -290,22 +294,23 @@ fn write_endpoint(page: &mut [u8], at: usize, endpoint: Endpoint) -> usize
     write_endpoint_block(page, at, endpoint)
 }
 
-/// Writes the number of a block, and its flags or the flags of its security context.
+/// Writes the number of a block, and the flags of the block or of its security context.
 fn write_block_flags(page: &mut [u8], at: usize, block: u64, flags: u64) -> usize
     requires { at + WORDS_MAX ≤ length page.old }
     ensures { PutsText page.old page.new at result WORDS_MAX
-        (number_text (codes " block=") block ++ control_words flags) }
+        (number_text (codes " block=") block ++ control_field flags) }
 {
     let at = write_number(page, at, *b" block=", block);
     write_control(page, at, flags)
 }
 
-/// Writes the number of a security block, and a target of it if there is one.
-#[tactic(auto, unfolding(crate::specs::Words::target_words))]
+/// Writes the number of a security block, and the target that breaks the rule. If the block has no
+/// targets, no target is written.
+#[tactic(auto, unfolding(crate::specs::Words::target_field))]
 fn write_target(page: &mut [u8], at: usize, block: u64, target: Option<u64>) -> usize
     requires { at + WORDS_MAX ≤ length page.old }
     ensures { PutsText page.old page.new at result WORDS_MAX
-        (number_text (codes " block=") block ++ target_words target) }
+        (number_text (codes " block=") block ++ target_field target) }
 {
     let at = write_number(page, at, *b" block=", block);
     match target {
@@ -336,12 +341,12 @@ fn write_fragment(page: &mut [u8], at: usize, offset: u64, size: u64, total: u64
     write_number(page, at, *b" total=", total)
 }
 
-/// Writes the number of hop count blocks, and the hop limit if the first block has one.
-#[tactic(auto, unfolding(crate::specs::Words::limit_words))]
+/// Writes the number of hop count blocks, and the hop limit if one was read from the first block.
+#[tactic(auto, unfolding(crate::specs::Words::limit_field))]
 fn write_hop_limit(page: &mut [u8], at: usize, blocks: u64, limit: Option<u64>) -> usize
     requires { at + WORDS_MAX ≤ length page.old }
     ensures { PutsText page.old page.new at result WORDS_MAX
-        (number_text (codes " blocks=") blocks ++ limit_words limit) }
+        (number_text (codes " blocks=") blocks ++ limit_field limit) }
 {
     let at = write_number(page, at, *b" blocks=", blocks);
     match limit {
@@ -357,6 +362,7 @@ fn write_bundle(page: &mut [u8], at: usize, rule: &BundleRule) -> usize
     ensures { PutsText page.old page.new at result WORDS_MAX (bundle_words rule.now) }
 {
     match *rule {
+        // The name of the rule says all.
         BundleRule::PrimaryCheck { .. }
         | BundleRule::SourceNode
         | BundleRule::ReportTimes

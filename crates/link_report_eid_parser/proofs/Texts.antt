@@ -8,7 +8,7 @@ use Rattle.link_bundle_types.specs.declared.eid.Eid.TheVariants.{DtnNone, Dtn, I
 use Rattle.link_bundle_types.specs.declared.kept_eid.EidForm.TheVariants as form
 use Rattle.link_report.specs.{Eid.eid_text, Text.{escaped_byte, is_plain, escaped, number_text}}
 use Rattle.link_report_eid_parser.proofs.{Escapes.same_name, Numbers.{same_pair, no_pair}}
-use Rattle.link_report_eid_parser.specs.TextOf.{IsTextOf, IsNoText, ReadEid, OneText}
+use Rattle.link_report_eid_parser.specs.TextOf.{IsTextOf, IsNoText, ReadEid, TextDeterminesEid}
 
 -- ---- the scheme
 
@@ -140,7 +140,7 @@ no_two_after node rest text fits is none other service other_fits service_fits s
 
 -- ---- the law
 
-pub same_eid : OneText
+pub same_eid : TextDeterminesEid
 unfolding eid_text number_text escaped escaped_byte is_plain
 same_eid DtnNone DtnNone one other is = refl
 same_eid DtnNone (Dtn name) one other is =

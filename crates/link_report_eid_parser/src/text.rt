@@ -3,7 +3,8 @@
 ghost use Rattle.std.specs.Prelude.{◌≡◌, ◌≢◌, ℕ, ◌^◌, ◌<◌, ◌==◌, List, [], ◌∷◌, ◌++◌, codes, decimal, IfSome, IfNone};
 ghost use Rattle.std.specs.Bool.{OnTrue, OnFalse};
 ghost use Rattle.std.specs.List.{position};
-ghost use Rattle.link_report_eid_parser.specs.TextOf.{formed_eid, IsTextOf, IsNoText, ReadsText};
+ghost use Rattle.link_bundle_types.specs.KeptEid.{formed_eid};
+ghost use Rattle.link_report_eid_parser.specs.TextOf.{IsTextOf, IsNoText, ReadsText};
 
 use crate::decimal::read_decimal;
 use crate::name::read_name;
@@ -89,8 +90,9 @@ fn read_dtn(text: &[u8], name: &mut [u8]) -> Result<(EidForm, usize), TextFault>
 ///
 /// # Errors
 ///
-/// The text is none that [`put_eid`](link_report::put_eid) appends. Or the dtn name is longer than
-/// the slice: then the slice is as it was. A slice of 1,024 bytes holds every name.
+/// No endpoint ID has this text, so [`put_eid`](link_report::put_eid) never appends it. Or the dtn
+/// name is longer than the slice. In both cases the slice stays as it was. A slice of 1,024 bytes
+/// has room for every name.
 pub fn read_eid_text(text: &[u8], name: &mut [u8]) -> Result<(EidForm, usize), TextFault>
     ensures { ReadsText text.now name.old name.new result }
 {

@@ -7,7 +7,7 @@ use Rattle.link_cbor.specs.declared.head.Head.{Head as HeadItem}
 use Rattle.link_cbor.specs.Head.{Whole, front_by, head_front, whole_of}
 use Rattle.link_rules_shared.specs.declared.heads.{Found.Found, WalkStage.TheVariants.Inside}
 use Rattle.link_rules_shared.specs.Heads.{content_size}
-use Rattle.link_rules_shared.specs.HeadWalk.{HasFound, NotesItemHead}
+use Rattle.link_rules_shared.specs.HeadWalk.{AreFirstSoughtHeads, NotesCborHead}
 use Rattle.link_rules_shared.proofs.Walks.{found_head, or_none}
 
 abbrev pub is_small : ℕ → Bool
@@ -40,7 +40,7 @@ head_front-one_byte [] some small = absurd (omega arith)
 head_front-one_byte (byte ∷ rest) some small = rw small refl
 
 noted : (found : Found) (offset byte : ℕ) → nat_lt (byte % 32) 24 ≡ true
-    → NotesItemHead found found offset (head_of byte) 1
+    → NotesCborHead found found offset (head_of byte) 1
 noted found offset byte small = record {
   long = rw small (sym (or_none found.long));
   string = sym (or_none found.string);
@@ -55,9 +55,9 @@ no_content byte no_string = rw no_string refl
 -- a small head in a piece: nothing is found in it, and a head begins after it
 pub found_small : (found : Found) (offset taken : ℕ) (seen piece : List ℕ) → offset ≡ length seen
     → taken < length piece → is_small (get_or piece taken 0) ≡ true
-    → HasFound found (Inside 0) (seen ++ take taken piece)
+    → AreFirstSoughtHeads found (Inside 0) (seen ++ take taken piece)
     → length (seen ++ take (taken + 1) piece) < 2 ^ 63
-    → HasFound found (Inside 0) (seen ++ take (taken + 1) piece)
+    → AreFirstSoughtHeads found (Inside 0) (seen ++ take (taken + 1) piece)
 found_small found offset taken seen piece here within is come small =
     let byte = get_or piece taken 0 in
     let parts = both (nat_lt (byte % 32) 24) _ is in
@@ -66,7 +66,7 @@ found_small found offset taken seen piece here within is come small =
     let first : get_or (drop taken piece) 0 0 ≡ get_or piece taken 0 = grind (arith, get_or-drop) in
     let begins : head_front (drop taken piece) ≡ Whole (head_of (get_or piece taken 0)) 1 =
     rw first at (head_front-one_byte rest some (rw first parts.0)) in
-    subst (λ (left : ℕ). HasFound found (Inside left) (seen ++ take (taken + 1) piece))
+    subst (λ (left : ℕ). AreFirstSoughtHeads found (Inside left) (seen ++ take (taken + 1) piece))
     (no_content byte (not-true _ parts.1))
     (found_head found found offset taken 1 seen piece (head_of byte) here (omega arith)
     (ap whole_of begins) (omega arith) come

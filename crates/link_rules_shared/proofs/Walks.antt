@@ -11,7 +11,7 @@ use Rattle.link_cbor.proofs.{HeadLaws.{head_alone, whole_stays, ill_formed_stays
 use Rattle.link_rules_shared.specs.declared.heads.{WalkStage.WalkStage, WalkStage.TheVariants.{Inside, Head, Ended}}
 use Rattle.link_rules_shared.specs.declared.heads.{Found.Found, HeadWalk.HeadWalk}
 use Rattle.link_rules_shared.specs.Heads.{content_size, is_long, is_open_string, is_open_item, is_encoded, first_from}
-use Rattle.link_rules_shared.specs.HeadWalk.{first_left, HasSought, HasFound, NotesItemHead, IsAtStage, HasWalkedBy, HasWalked, TakesRun}
+use Rattle.link_rules_shared.specs.HeadWalk.{first_left, IsFirstSoughtHead, AreFirstSoughtHeads, NotesCborHead, IsHeadScanAtStage, HasWalkedBy, HasWalked, TakesRun}
 
 -- ---- the definition, step by step
 
@@ -74,10 +74,10 @@ first_or None true offset rest = refl
 first_or None false offset rest = refl
 
 -- the same of each kind of heads
-each : {found : Found} {stage after : WalkStage} {seen bytes : List ℕ} → HasFound found stage seen
-    → ((sought : HeadItem → ℕ → Bool) (first : Option ℕ) → HasSought sought first stage seen
-    → HasSought sought first after bytes)
-    → HasFound found after bytes
+each : {found : Found} {stage after : WalkStage} {seen bytes : List ℕ} → AreFirstSoughtHeads found stage seen
+    → ((sought : HeadItem → ℕ → Bool) (first : Option ℕ) → IsFirstSoughtHead sought first stage seen
+    → IsFirstSoughtHead sought first after bytes)
+    → AreFirstSoughtHeads found after bytes
 each come step = record {
   long = step is_long _ come.long;
   string = step is_open_string _ come.string;
@@ -85,8 +85,8 @@ each come step = record {
   encoded = step is_encoded _ come.encoded;
 }
 
-found_inside : (found : Found) (left : ℕ) (seen run : List ℕ) → HasFound found (Inside left) seen
-    → length run ≤ left → HasFound found (Inside (left - length run)) (seen ++ run)
+found_inside : (found : Found) (left : ℕ) (seen run : List ℕ) → AreFirstSoughtHeads found (Inside left) seen
+    → length run ≤ left → AreFirstSoughtHeads found (Inside (left - length run)) (seen ++ run)
 found_inside found left seen run come within = each come (λ sought first come. record {
   reads = λ more.
       let there : length (seen ++ run) ≡ length seen + length run = length-append seen run in
@@ -96,14 +96,14 @@ found_inside found left seen run come within = each come (λ sought first come. 
 })
 
 -- where a head begins, no byte of it is seen
-found_begins : (found : Found) (offset : ℕ) (seen : List ℕ) → HasFound found (Inside 0) seen
-    → offset ≡ length seen → HasFound found (Head offset) seen
+found_begins : (found : Found) (offset : ℕ) (seen : List ℕ) → AreFirstSoughtHeads found (Inside 0) seen
+    → offset ≡ length seen → AreFirstSoughtHeads found (Head offset) seen
 found_begins found offset seen come here = each come (λ sought first come. record {
   reads = λ more. rw (here, drop-length seen) (come.reads more);
 })
 
-found_more : (found : Found) (offset : ℕ) (seen run : List ℕ) → HasFound found (Head offset) seen
-    → offset ≤ length seen → HasFound found (Head offset) (seen ++ run)
+found_more : (found : Found) (offset : ℕ) (seen run : List ℕ) → AreFirstSoughtHeads found (Head offset) seen
+    → offset ≤ length seen → AreFirstSoughtHeads found (Head offset) (seen ++ run)
 found_more found offset seen run come within = each come (λ sought first come. record {
   reads = λ more.
       rw (
@@ -114,9 +114,9 @@ found_more found offset seen run come within = each come (λ sought first come. 
 })
 
 sought_whole : (sought : HeadItem → ℕ → Bool) (found : Option ℕ) (offset : ℕ) (seen : List ℕ)
-    (head : HeadItem) → HasSought sought found (Head offset) seen → offset ≤ length seen
+    (head : HeadItem) → IsFirstSoughtHead sought found (Head offset) seen → offset ≤ length seen
     → head_front (drop offset seen) ≡ Whole head (length (drop offset seen))
-    → HasSought sought
+    → IsFirstSoughtHead sought
     (option_or found (then_some (sought head (length (drop offset seen))) offset))
     (Inside (content_size head)) seen
 sought_whole sought found offset seen head come within whole = record {
@@ -132,10 +132,10 @@ sought_whole sought found offset seen head come within whole = record {
 }
 
 found_whole : (old new : Found) (offset : ℕ) (seen : List ℕ) (head : HeadItem) (size : ℕ)
-    → HasFound old (Head offset) seen → offset ≤ length seen
+    → AreFirstSoughtHeads old (Head offset) seen → offset ≤ length seen
     → head_front (drop offset seen) ≡ Whole head (length (drop offset seen))
-    → size ≡ length (drop offset seen) → NotesItemHead old new offset head size
-    → HasFound new (Inside (content_size head)) seen
+    → size ≡ length (drop offset seen) → NotesCborHead old new offset head size
+    → AreFirstSoughtHeads new (Inside (content_size head)) seen
 found_whole old new offset seen head size come within whole sized noted = record {
   long = rw (noted.long, sized) (sought_whole is_long _ offset seen head come.long within whole);
   string = rw noted.string
@@ -147,10 +147,10 @@ found_whole old new offset seen head size come within whole sized noted = record
 
 -- the next head, whose bytes are a run
 found_next : (old new : Found) (offset : ℕ) (seen run : List ℕ) (head : HeadItem) (size : ℕ)
-    → HasFound old (Inside 0) seen → offset ≡ length seen
+    → AreFirstSoughtHeads old (Inside 0) seen → offset ≡ length seen
     → head_front run ≡ Whole head (length run) → size ≡ length run
-    → NotesItemHead old new offset head size
-    → HasFound new (Inside (content_size head)) (seen ++ run)
+    → NotesCborHead old new offset head size
+    → AreFirstSoughtHeads new (Inside (content_size head)) (seen ++ run)
 found_next old new offset seen run head size come here whole sized noted =
     let rest : drop offset (seen ++ run) ≡ run = rw here (drop-append_seam seen run) in
     found_whole old new offset (seen ++ run) head size
@@ -191,10 +191,10 @@ fewer seen piece count more within small =
 pub found_head : (old new : Found) (offset taken size : ℕ) (seen piece : List ℕ) (head : HeadItem)
     → offset ≡ length seen → taken ≤ length piece
     → whole_of (head_front (drop taken piece)) ≡ Some (head, size)
-    → taken + size ≤ length piece → HasFound old (Inside 0) (seen ++ take taken piece)
-    → NotesItemHead old new ((offset + taken) % 2 ^ 64) head size
+    → taken + size ≤ length piece → AreFirstSoughtHeads old (Inside 0) (seen ++ take taken piece)
+    → NotesCborHead old new ((offset + taken) % 2 ^ 64) head size
     → length (seen ++ take (taken + size) piece) < 2 ^ 63
-    → HasFound new (Inside (content_size head)) (seen ++ take (taken + size) piece)
+    → AreFirstSoughtHeads new (Inside (content_size head)) (seen ++ take (taken + size) piece)
 found_head old new offset taken size seen piece head here within front ends come noted small =
     let rest = drop taken piece in
     let run = take size (drop taken piece) in
@@ -203,29 +203,29 @@ found_head old new offset taken size seen piece head here within front ends come
     let before : length (take taken piece) ≡ taken = length-take-le taken piece within in
     let joined = joined_run seen piece taken size in
     let few = fewer seen piece taken (taken + size) (omega arith) small in
-    subst (λ (seen : List ℕ). HasFound new (Inside (content_size head)) seen) joined
+    subst (λ (seen : List ℕ). AreFirstSoughtHeads new (Inside (content_size head)) seen) joined
     (found_next old new ((offset + taken) % 2 ^ 64) (seen ++ take taken piece) run head size come
     (counted_more offset taken seen (take taken piece) here (sym before) few)
     (head_alone rest head size front there) (sym sized) noted)
 
 -- the next bytes of a string in a piece
 pub found_content : (found : Found) (left size taken : ℕ) (seen piece : List ℕ)
-    → HasFound found (Inside left) (seen ++ take taken piece) → size ≤ left
+    → AreFirstSoughtHeads found (Inside left) (seen ++ take taken piece) → size ≤ left
     → taken + size ≤ length piece
-    → HasFound found (Inside (left - size)) (seen ++ take (taken + size) piece)
+    → AreFirstSoughtHeads found (Inside (left - size)) (seen ++ take (taken + size) piece)
 found_content found left size taken seen piece come within ends =
     let run = take size (drop taken piece) in
     let sized : length (take size (drop taken piece)) ≡ size =
     length-take-le size (drop taken piece) (omega (arith, length-drop taken piece)) in
-    subst (λ (seen : List ℕ). HasFound found (Inside (left - size)) seen)
+    subst (λ (seen : List ℕ). AreFirstSoughtHeads found (Inside (left - size)) seen)
     (joined_run seen piece taken size)
-    (subst (λ (size : ℕ). HasFound found (Inside (left - size)) ((seen ++ take taken piece) ++ run))
+    (subst (λ (size : ℕ). AreFirstSoughtHeads found (Inside (left - size)) ((seen ++ take taken piece) ++ run))
     sized
     (found_inside found left (seen ++ take taken piece) run come (omega arith)))
 
 -- nothing of a piece
 pub found_none : (found : Found) (left taken : ℕ) (seen piece : List ℕ) → left ≡ 0 → taken ≡ 0
-    → HasFound found (Inside left) (seen ++ take taken piece) → HasFound found (Inside 0) seen
+    → AreFirstSoughtHeads found (Inside left) (seen ++ take taken piece) → AreFirstSoughtHeads found (Inside 0) seen
 found_none found left taken seen piece none no_more come =
     rw (none, no_more, append-nil seen) at come
 
@@ -278,7 +278,7 @@ pub head_whole : (offset : ℕ) (found noted : Found) (old new : HeadScan) (coun
     (seen run : List ℕ) (head : HeadItem) (size : ℕ) → HasWalkedBy (Head offset) found old count seen
     → 1 ≡ length run → length (seen ++ run) < 2 ^ 63
     → head_front (drop offset (seen ++ run)) ≡ Whole head (length (drop offset (seen ++ run)))
-    → size ≡ length (drop offset (seen ++ run)) → NotesItemHead found noted offset head size
+    → size ≡ length (drop offset (seen ++ run)) → NotesCborHead found noted offset head size
     → HasScannedHead new []
     → HasWalkedBy (Inside (content_size head)) noted new ((count + 1) % 2 ^ 64) (seen ++ run)
 head_whole offset found noted old new count seen run head size come one small whole sized with_it
@@ -304,7 +304,7 @@ taken_then old middle new run more first second = record {
 -- ---- what is found in the bytes seen
 
 first_left-nil : (sought : HeadItem → ℕ → Bool) (stage : WalkStage) (head : HeadScan) (seen : List ℕ)
-    → IsAtStage stage head seen → first_left sought stage seen [] ≡ None
+    → IsHeadScanAtStage stage head seen → first_left sought stage seen [] ≡ None
 unfolding first_from
 first_left-nil sought (Inside left) head seen stands = refl
 first_left-nil sought (Head offset) head seen stands =
@@ -316,8 +316,8 @@ or_none None = refl
 or_none (Some at) = refl
 
 pub sought_now : (sought : HeadItem → ℕ → Bool) (found : Option ℕ) (stage : WalkStage)
-    (head : HeadScan) (seen : List ℕ) → HasSought sought found stage seen
-    → IsAtStage stage head seen → found ≡ first_from sought 1 0 seen
+    (head : HeadScan) (seen : List ℕ) → IsFirstSoughtHead sought found stage seen
+    → IsHeadScanAtStage stage head seen → found ≡ first_from sought 1 0 seen
 sought_now sought found stage head seen come stands =
     let reads = come.reads [] in
     rw (append-nil seen, first_left-nil sought stage head seen stands, or_none found) at (sym reads)

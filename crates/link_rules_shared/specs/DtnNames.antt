@@ -10,7 +10,7 @@ abbrev pub is_named_at : (slash : Option ℕ) → List ℕ → Bool
 is_named_at None text = false
 is_named_at (Some slash) text = is_reg_name (take slash text)
 
--- a dtn name: `//`, a node name, `/`, and a demux, with no byte outside 21 to 7e
+-- a dtn name: `//`, a node name, `/`, and a demux, with no byte outside hexadecimal 21 to 7e
 unfoldable pub is_dtn_name : List ℕ → Bool
 is_dtn_name text =
     starts_with nat_eq text (codes "//")
@@ -21,8 +21,8 @@ abbrev pub demux_of : List ℕ → List ℕ
 demux_of text = after_mark 0x2f (after_mark 0x2f (after_mark 0x2f text))
 
 -- How strictly a demux is forbidden in the name of a node, or `None` for the empty demux, which is
--- allowed. A demux that begins with `~` names an endpoint that is no singleton. Any other names no
--- node.
+-- allowed. A demux that begins with `~` names an endpoint that is no singleton. Any other demux
+-- names no node.
 abbrev pub demux_level : List ℕ → Option Level
 demux_level [] = None
 demux_level (first ∷ rest) = if first == 0x7e then Some Must else Some Should

@@ -19,49 +19,50 @@ first_left sought Ended seen more = None
 
 -- Whatever bytes follow, the first head that is sought is at offset `found`. If none was found yet,
 -- it is the first from this stage on.
-pub record HasSought (sought : HeadItem → ℕ → Bool) (found : Option ℕ) (stage : WalkStage)
+pub record IsFirstSoughtHead (sought : HeadItem → ℕ → Bool) (found : Option ℕ) (stage : WalkStage)
     (seen : List ℕ) : Type 0 where
   pub reads : (more : List ℕ)
       → first_from sought 1 0 (seen ++ more) ≡ option_or found (first_left sought stage seen more)
 
--- `HasSought` holds for each kind of heads that is sought
-pub record HasFound (found : Found) (stage : WalkStage) (seen : List ℕ) : Type 0 where
-  pub long : HasSought is_long found.long stage seen
-  pub string : HasSought is_open_string found.string stage seen
-  pub item : HasSought is_open_item found.item stage seen
-  pub encoded : HasSought is_encoded found.encoded stage seen
+-- `IsFirstSoughtHead` holds for each kind of heads that is sought
+pub record AreFirstSoughtHeads (found : Found) (stage : WalkStage) (seen : List ℕ) : Type 0 where
+  pub long : IsFirstSoughtHead is_long found.long stage seen
+  pub string : IsFirstSoughtHead is_open_string found.string stage seen
+  pub item : IsFirstSoughtHead is_open_item found.item stage seen
+  pub encoded : IsFirstSoughtHead is_encoded found.encoded stage seen
 
--- the offset of the first head that is sought, after a head of `size` bytes at `offset`; `old` is
--- the offset that was found before
+-- The offset of the first head that is sought, once the head of `size` bytes at `offset` was read.
+-- `old` is the offset that was found before, if one was.
 abbrev pub noted : (sought : HeadItem → ℕ → Bool) → (old : Option ℕ) → (offset : ℕ) → HeadItem
     → (size : ℕ) → Option ℕ
 noted sought old offset head size = option_or old (then_some (sought head size) offset)
 
 -- a head of `size` bytes at `offset` turns what was found, `old`, into `new`
-pub record NotesItemHead (old new : Found) (offset : ℕ) (head : HeadItem) (size : ℕ) : Type 0 where
+pub record NotesCborHead (old new : Found) (offset : ℕ) (head : HeadItem) (size : ℕ) : Type 0 where
   pub long : new.long ≡ noted is_long old.long offset head size
   pub string : new.string ≡ noted is_open_string old.string offset head size
   pub item : new.item ≡ noted is_open_item old.item offset head size
   pub encoded : new.encoded ≡ noted is_encoded old.encoded offset head size
 
--- the bytes seen end inside the head that begins at `offset`
-pub record IsInHead (head : HeadScan) (offset : ℕ) (seen : List ℕ) : Type 0 where
+-- the seen bytes end inside the head that begins at `offset`
+pub record HasSeenPartOfHead (head : HeadScan) (offset : ℕ) (seen : List ℕ) : Type 0 where
   pub in_bytes : offset ≤ length seen
   pub scanned : HasScannedHead head (drop offset seen)
   pub cut : head_front (drop offset seen) ≡ Cut
 
--- the state of the scan of a head at each stage; between two heads it is new
-abbrev pub IsAtStage : WalkStage → HeadScan → List ℕ → Type 0
-IsAtStage (Inside left) head seen = HasScannedHead head []
-IsAtStage (Head offset) head seen = IsInHead head offset seen
-IsAtStage Ended head seen = Unit {0}
+-- The state of the scan of a head at each stage. At `Inside` it is new. At `Head` it has scanned
+-- the bytes of that head so far. At `Ended` it does not matter.
+abbrev pub IsHeadScanAtStage : WalkStage → HeadScan → List ℕ → Type 0
+IsHeadScanAtStage (Inside left) head seen = HasScannedHead head []
+IsHeadScanAtStage (Head offset) head seen = HasSeenPartOfHead head offset seen
+IsHeadScanAtStage Ended head seen = Unit {0}
 
 -- these are the parts of a walk that has seen exactly these bytes
 pub record HasWalkedBy (stage : WalkStage) (found : Found) (head : HeadScan) (count : ℕ)
     (seen : List ℕ) : Type 0 where
   pub counted : count ≡ length seen
-  pub sought : HasFound found stage seen
-  pub stands : IsAtStage stage head seen
+  pub sought : AreFirstSoughtHeads found stage seen
+  pub stands : IsHeadScanAtStage stage head seen
 
 -- the walk has seen exactly these bytes
 abbrev pub HasWalked : HeadWalk → List ℕ → Type 0

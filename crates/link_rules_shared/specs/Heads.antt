@@ -24,8 +24,7 @@ shortest_size (Some value) =
 abbrev pub is_long : Head → ℕ → Bool
 is_long head size = nat_lt (shortest_size head.value) size
 
--- whether a head is that of a byte string of indefinite length, 5f (section 3.2.3); its size does
--- not matter
+-- whether a head, of any size, opens a byte string of indefinite length, 5f (section 3.2.3)
 abbrev pub is_open_string : Head → ℕ → Bool
 is_open_string head size = is_indefinite head && (head.major == 2)
 
@@ -38,8 +37,8 @@ is_open_item head size = is_indefinite head && not (head.major == 2)
 abbrev pub is_encoded : Head → ℕ → Bool
 is_encoded head size = (head.major == 6) && ((size == 2) && (unwrap_or head.value 0 == 24))
 
--- The offset of the first head that is sought. The next byte has the offset `offset`, and `inside`
--- more bytes belong to the last head and to its string. No head is found after one that is
+-- The offset of the first head that is sought. `offset` is the offset of the next byte. `inside`
+-- more bytes belong to the latest head and to its string. No head is found after one that is
 -- ill-formed or cut.
 unfoldable pub first_from : (sought : Head → ℕ → Bool) → (inside offset : ℕ) → List ℕ → Option ℕ
 first_from sought inside offset [] = None
@@ -51,7 +50,7 @@ first_from sought zero offset (byte ∷ bytes) =
           else first_from sought ((size - 1) + content_size head) (offset + 1) bytes
     ]
 
--- the first long head of a bundle, whose own array head is passed over
+-- The offset of the first long head of a bundle. The bundle's own array head is passed over.
 abbrev pub first_long : List ℕ → Option ℕ
 first_long bytes = first_from is_long 1 0 bytes
 

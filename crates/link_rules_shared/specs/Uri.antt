@@ -20,8 +20,8 @@ after_mark mark bytes = after_at (first_of mark bytes) bytes
 unfoldable pub is_word : (word text : List ℕ) → Bool
 is_word word text = pointwise nat_eq (map to_ascii_lowercase text) (map to_ascii_lowercase word)
 
--- the bytes from 21 to 7e that are in no URI: `"`, `<`, `>`, `\`, `^`, a grave accent, `{`, `|` and
--- `}`
+-- the bytes from hexadecimal 21 to 7e that are in no URI: `"`, `<`, `>`, `\`, `^`, a grave accent,
+-- `{`, `|` and `}`
 abbrev pub others : List ℕ
 others = 0x22 ∷ 0x3c ∷ 0x3e ∷ 0x5c ∷ 0x5e ∷ 0x60 ∷ 0x7b ∷ 0x7c ∷ 0x7d ∷ []
 

@@ -36,7 +36,8 @@ pub fn demux_of(text: &[u8]) -> &[u8]
     after_mark(b'/', after_mark(b'/', after_mark(b'/', text)))
 }
 
-/// How strictly a demux is forbidden in the name of a node. An empty demux is allowed: `None`.
+/// How strictly a demux is forbidden in the name of a node, or `None` for the empty demux, which is
+/// allowed.
 pub fn demux_level(demux: &[u8]) -> Option<Level>
     ensures { result ≡ demux_level demux.now }
 {

@@ -46,7 +46,8 @@ fn is_small_head(byte: u8) -> bool
 /// Whether a head of `size` bytes is longer than its number needs (RFC 8949 sections 4.1 and
 /// 4.2.1).
 ///
-/// A head of 2, 3, 5 or 9 bytes is long if its number fits in the next smaller size.
+/// A head of 2, 3, 5 or 9 bytes is long if its number fits in the next smaller size. There are no
+/// other sizes above 1.
 pub fn is_long(head: Head, size: usize) -> bool
     ensures { result ≡ is_long head size }
 {
@@ -109,14 +110,17 @@ const NONE_FOUND: Found = Found {
 
 impl Found {
     ghost use Rattle.std.specs.{Bool.then_some, Option.option_or};
-    ghost use Rattle.link_rules_shared.specs.HeadWalk.{HasFound, NotesItemHead};
+    ghost use Rattle.link_rules_shared.specs.HeadWalk.{AreFirstSoughtHeads, NotesCborHead};
     ghost use Rattle.link_rules_shared.specs.declared.heads.WalkStage.TheVariants.{Inside};
 
-    /// Keeps the offset of a head of `size` bytes, if it is the first of its kind.
+    /// Keeps the offset of a head of `size` bytes for each kind that it is of, if it is the first
+    /// head of that kind.
+    ///
+    /// A head of one byte with a number is of no kind.
     // Inlined: the head of a short string is one byte, and it should cost no call.
     #[inline(always)]
     fn note(&mut self, offset: u64, head: Head, size: usize)
-        ensures { NotesItemHead self.old self.new offset head size }
+        ensures { NotesCborHead self.old self.new offset head size }
     {
         if size == 1 && head.value.is_some() {
             return;
@@ -124,9 +128,9 @@ impl Found {
         self.note_any(offset, head, size);
     }
 
-    /// Keeps the offset of any head, if it is the first of its kind.
+    /// Does what `note` does, without its short cut for heads of one byte.
     fn note_any(&mut self, offset: u64, head: Head, size: usize)
-        ensures { NotesItemHead self.old self.new offset head size }
+        ensures { NotesCborHead self.old self.new offset head size }
     {
         if is_long(head, size) {
             self.note_long(offset);
@@ -149,8 +153,10 @@ impl Found {
         self.long = self.long.or(Some(offset));
     }
 
-    /// Keeps the offset of a head for each of these kinds that it is of, if it is the first of that
-    /// kind.
+    /// Keeps the offset of a head for each kind of [`Unread`] that it is of, if it is the first
+    /// head of that kind.
+    ///
+    /// `string`, `item` and `encoded` say whether it is of these kinds.
     // It takes no head, so that callers need not store the head in memory.
     #[cold]
     #[inline(never)]
@@ -178,8 +184,8 @@ impl Found {
         // `seen` is the list of the bytes before the piece.
         ensures found { (seen : List ℕ) → offset ≡ length seen
             → length (seen ++ take result.0 piece.now) < 2 ^ 63
-            → HasFound self.old (Inside 0) seen
-            → HasFound self.new (Inside result.1) (seen ++ take result.0 piece.now) }
+            → AreFirstSoughtHeads self.old (Inside 0) seen
+            → AreFirstSoughtHeads self.new (Inside result.1) (seen ++ take result.0 piece.now) }
     {
         let mut taken = 0;
         while taken < piece.len() {
@@ -207,9 +213,9 @@ impl Found {
 /// The position of a walk over the heads of a bundle.
 #[derive(Clone, Copy, Debug)]
 enum WalkStage {
-    /// This many more bytes belong to the last head and to its string. Then a head begins.
+    /// This many more bytes belong to the latest head and to its string. Then a head begins.
     Inside(u64),
-    /// The bytes seen end inside the head that begins at this offset.
+    /// The seen bytes end inside the head that begins at this offset.
     Head(u64),
     /// A head is ill-formed, so there is none after it.
     Ended,
@@ -341,6 +347,7 @@ impl HeadWalk {
     {
         let offset = self.count;
         let (taken, left) = self.found.take_heads(offset, piece);
+        // The head is ill-formed, or the piece ends inside it. So it is taken byte by byte.
         if taken == 0 {
             self.stage = WalkStage::Head(offset);
             self.head_byte(offset, piece[0]);
@@ -352,7 +359,7 @@ impl HeadWalk {
     }
 
     /// Passes over the first `left` bytes of a piece, or all if it has fewer, and returns how many.
-    /// They belong to the last head and its string.
+    /// They belong to the latest head and its string.
     fn pass_first(&mut self, left: u64, piece: &[u8]) -> usize
         requires stage { self.old.stage ≡ WalkStage.Inside left }
         requires left { 0 < left }
@@ -366,7 +373,8 @@ impl HeadWalk {
         passed
     }
 
-    /// Passes over bytes of the last head and its string, which have `left` more bytes.
+    /// Passes over a run of bytes, which is not longer than `left`. The next `left` bytes belong to
+    /// the latest head and its string.
     #[inline(always)]
     fn pass(&mut self, left: u64, run: &[u8])
         requires stage { self.old.stage ≡ WalkStage.Inside left }

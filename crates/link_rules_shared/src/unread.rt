@@ -30,11 +30,11 @@ pub struct Prefix {
 impl Prefix {
     ghost use Rattle.std.specs.Prelude.{◌≡◌, [], List, ◌++◌, ℕ};
     ghost use Rattle.link_rules_shared.specs.Heads.{is_tagged};
-    ghost use Rattle.link_rules_shared.specs.Prefix.{IsPrefixAt};
+    ghost use Rattle.link_rules_shared.specs.Prefix.{HasFirstFourBytes};
 
     /// The prefix of a bundle before its first byte.
     pub fn new() -> Prefix
-        ensures { IsPrefixAt result [] }
+        ensures { HasFirstFourBytes result [] }
     {
         Prefix {
             bytes: ArrayVec::new(),
@@ -43,7 +43,7 @@ impl Prefix {
 
     /// Empties the prefix, before the first byte of the next bundle.
     pub fn restart(&mut self)
-        ensures { IsPrefixAt self.new [] }
+        ensures { HasFirstFourBytes self.new [] }
     {
         self.bytes.clear();
     }
@@ -51,18 +51,18 @@ impl Prefix {
     /// Takes the next piece of the bundle. Most pieces come after the first bytes.
     #[inline(always)]
     pub fn take(&mut self, piece: &[u8])
-        ensures { (seen : List ℕ) → IsPrefixAt self.old seen
-            → IsPrefixAt self.new (seen ++ piece.now) }
+        ensures { (seen : List ℕ) → HasFirstFourBytes self.old seen
+            → HasFirstFourBytes self.new (seen ++ piece.now) }
     {
         if !self.bytes.is_full() {
             self.take_first(piece);
         }
     }
 
-    /// Takes a piece, if there is room for bytes.
+    /// Takes a piece, and keeps its first bytes while there is room for them.
     fn take_first(&mut self, piece: &[u8])
-        ensures { (seen : List ℕ) → IsPrefixAt self.old seen
-            → IsPrefixAt self.new (seen ++ piece.now) }
+        ensures { (seen : List ℕ) → HasFirstFourBytes self.old seen
+            → HasFirstFourBytes self.new (seen ++ piece.now) }
     {
         for byte in piece {
             if self.bytes.is_full() {
@@ -74,7 +74,7 @@ impl Prefix {
 
     /// Whether the bundle begins with tag 55799 and an array of indefinite length.
     pub fn is_tagged(&self) -> bool
-        ensures { (seen : List ℕ) → IsPrefixAt self.now seen → result ≡ is_tagged seen }
+        ensures { (seen : List ℕ) → HasFirstFourBytes self.now seen → result ≡ is_tagged seen }
     {
         matches!(self.bytes.as_slice(), [0xd9, 0xd9, 0xf7, 0x9f])
     }

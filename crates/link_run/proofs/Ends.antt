@@ -4,7 +4,7 @@ use Rattle.std.proofs.{Math.Seq.take-append-add, lemmas.Bool.{cases_Bool, cases_
 use Rattle.std.proofs.lemmas.List.{take-append-le}
 use Rattle.link_wire.specs.{Device.Input, Limits.window_size, Source.{window_of, Takes}}
 use Rattle.link_wire.specs.Stream.{End, Fault, Reading, reading_of}
-use Rattle.link_wire.specs.{Session.{IsLeft, IsUndecided, HasMetFault}, declared.Source.Source}
+use Rattle.link_wire.specs.{Session.{IsSizeOfDataLeft, IsEndBeforeOrInHead, HasMetFault}, declared.Source.Source}
 use Rattle.link_wire.specs.declared.fault.WireFault.{WireFault}
 use Rattle.link_wire.specs.declared.fault.WireFault.TheVariants as wire
 use Rattle.link_report.specs.{Fault.fault_text}
@@ -16,11 +16,11 @@ use Rattle.link_run.proofs.Runs.{ReportsFaults, few_over}
 -- ---- where a recorded stream stops
 
 -- an end that more bytes may change shows no fault
-pub undecided_unshown : (end : End) → IsUndecided end → shows_fault (stop_of end) ≡ false
+pub undecided_unshown : (end : End) → IsEndBeforeOrInHead end → shows_fault (stop_of end) ≡ false
 undecided_unshown end is = grind arith
 
 -- an end at which a session goes on shows no fault
-pub standing_unshown : (offset left : ℕ) (end : End) → IsLeft offset left end
+pub standing_unshown : (offset left : ℕ) (end : End) → IsSizeOfDataLeft offset left end
     → shows_fault (stop_of end) ≡ false
 standing_unshown offset left end is = grind arith
 

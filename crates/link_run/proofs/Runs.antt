@@ -10,7 +10,7 @@ use Rattle.link_wire.specs.Source.{reader_of, window_of, ahead, Takes, TakesThen
 use Rattle.link_wire.specs.declared.IoFault.{IoFault}
 use Rattle.link_wire.specs.declared.IoFault.TheVariants as io
 use Rattle.link_wire.specs.declared.Source.{Source}
-use Rattle.link_run.specs.Run.{Texts, no_texts, ◌then◌, Tool, Looks, Devices, Place, devices_at, NoneFailed, HasWritten, HasWrittenAtEnd, IsAllGiven, FinishedRun, AreDue, IsReportBehind, EndedRun}
+use Rattle.link_run.specs.Run.{Texts, no_texts, ◌then◌, Tool, Looks, Devices, DevicesInRun, devices_at, NoneFailed, HasGivenAndWritten, HasTakenAndWrittenAtEnd, IsAllGiven, FinishedRun, AreDeterminedTexts, IsReportBehind, AfterRunAnswer}
 use Rattle.link_run.specs.Writers.{place_of, on_output, Writes, FailedWrite, AfterWrite, FailedSettle}
 use Rattle.link_run.specs.declared.{run.Status.Status, writers.Writers.Writers}
 
@@ -44,9 +44,9 @@ ReportsFaults tool =
 
 module _ {R W E : Type 0} (look : Looks R W E) where
   -- the devices as the run returns them; the bytes taken include those that were not given
-  pub written_left : (start : Devices R W E) (now : Place R W E) (bytes : List ℕ) (texts : Texts)
-      → HasWritten look start now bytes texts
-      → HasWrittenAtEnd look start (devices_at now) (bytes
+  pub written_left : (start : Devices R W E) (now : DevicesInRun R W E) (bytes : List ℕ) (texts : Texts)
+      → HasGivenAndWritten look start now bytes texts
+      → HasTakenAndWrittenAtEnd look start (devices_at now) (bytes
       ++ window_of now.source) texts
   written_left start now bytes texts written = record {
     takes = Consumes-trans (look.input start.reader).left (ahead look.input now.source) (look.input (reader_of now.source)).left bytes (window_of now.source) written.takes (Consumes-ahead (window_of now.source) (look.input (reader_of now.source)).left);
@@ -71,17 +71,17 @@ abbrev pub IsWrittenSoFar : Tool → (given : List ℕ) → Texts → Type 0
 IsWrittenSoFar tool given texts = (texts.report ≡ []) ⊎ IsWrittenAtPrefix tool given texts
 
 module _ {R W E : Type 0} (look : Looks R W E) where
-  pub written_as : {start : Devices R W E} {now : Place R W E} {xs ys : List ℕ} {p q : Texts}
-      → HasWritten look start now xs p → xs ≡ ys → p ≡ q
-      → HasWritten look start now ys q
+  pub written_as : {start : Devices R W E} {now : DevicesInRun R W E} {xs ys : List ℕ} {p q : Texts}
+      → HasGivenAndWritten look start now xs p → xs ≡ ys → p ≡ q
+      → HasGivenAndWritten look start now ys q
   written_as written bytes texts = rw (bytes, texts) at written
 
   -- bytes are given, and the texts written so far stay the same
   pub written_given : (start : Devices R W E) (old new : Source R) (w : Writers W E)
       (history bytes : List ℕ) (texts : Texts)
-      → HasWritten look start (place_of old w) history texts
+      → HasGivenAndWritten look start (place_of old w) history texts
       → Takes look.input old new bytes
-      → HasWritten look start (place_of new w) (history ++ bytes) texts
+      → HasGivenAndWritten look start (place_of new w) (history ++ bytes) texts
   written_given start old new w history bytes texts written takes = record {
     takes = Consumes-trans (look.input start.reader).left (ahead look.input old)
         (ahead look.input new) history bytes written.takes takes.next;
@@ -93,10 +93,10 @@ module _ {R W E : Type 0} (look : Looks R W E) where
   -- texts are written, and nothing is given
   pub written_on : (start : Devices R W E) (s : Source R) (old new : Writers W E)
       (history : List ℕ) (before texts : Texts) {all : Texts}
-      → HasWritten look start (place_of s old) history before
+      → HasGivenAndWritten look start (place_of s old) history before
       → Appends (look.output old.output).written (look.output new.output).written texts.output
       → Appends (look.report old.report).written (look.report new.report).written texts.report
-      → before then texts ≡ all → HasWritten look start (place_of s new) history all
+      → before then texts ≡ all → HasGivenAndWritten look start (place_of s new) history all
   written_on start s old new history before texts written output report same =
       rw (← same) (record {
         takes = written.takes;
@@ -129,7 +129,7 @@ module _ {R W E : Type 0} (look : Looks R W E) where
   -- the run has written the texts of the whole input
   pub answered : (tool : Tool) (start : Devices R W E) (s : Source R) (w : Writers W E)
       (given : List ℕ) (status : Status)
-      → HasWritten look start (place_of s w) given (tool.whole given).texts
+      → HasGivenAndWritten look start (place_of s w) given (tool.whole given).texts
       → NoneFailed look (devices_at (place_of s w))
       → status.0 ≡ (tool.whole given).status
       → IsAllGiven look (devices_at (place_of s w)) (window_of s)
@@ -137,7 +137,7 @@ module _ {R W E : Type 0} (look : Looks R W E) where
       → length (window_of s) < window_size
       → FinishedRun look tool start (devices_at (place_of s w)) given status
   answered tool start s w given status written sound ends settled few = record {
-    unread = window_of s;
+    ungiven = window_of s;
     few = few;
     written = written_left look start (place_of s w) given (tool.whole given).texts written;
     sound = sound;
@@ -163,32 +163,32 @@ module _ {R W E : Type 0} (look : Looks R W E) where
       stood
 
   -- if a text that is due is incomplete and the input ends in a fault, a whole text is incomplete
-  lacking : (tool : Tool) (now : Devices R W E) (given unread : List ℕ) (due : Texts)
+  lacking : (tool : Tool) (now : Devices R W E) (given ungiven : List ℕ) (due : Texts)
       (output report : ℕ) → ReportsFaults tool
-      → AreDue look tool now given unread due
+      → AreDeterminedTexts look tool now given ungiven due
       → report ≤ length due.report → (output < length due.output) ⊎ (report < length due.report)
       → (tool.whole given).status ≡ 3
       → (output < length (tool.whole given).texts.output)
       ⊎ (report < length (tool.whole given).texts.report)
-  lacking tool now given unread due output report faults (inl is) most less is_fault =
+  lacking tool now given ungiven due output report faults (inl is) most less is_fault =
       ⊎_elim
       (λ shown. rw (is, shown.1) at less)
       (λ more. inr (omega (arith, more, ap (λ (t : Texts). length t.report) is)))
       (faults given is_fault)
-  lacking tool now given unread due output report faults (inr is) most less is_fault =
+  lacking tool now given ungiven due output report faults (inr is) most less is_fault =
       rw is.1 at less
 
   -- a writer failed in the middle of texts that are due
   pub writer_lost : (tool : Tool) → ReportsFaults tool → (start : Devices R W E) (s : Source R)
       (old new : Writers W E) (given : List ℕ) (before texts due : Texts) (fault : IoFault)
-      → HasWritten look start (place_of s old) given before
+      → HasGivenAndWritten look start (place_of s old) given before
       → NoneFailed look (devices_at (place_of s old))
       → before then texts ≡ due
-      → AreDue look tool (devices_at (place_of s new)) given (window_of s)
+      → AreDeterminedTexts look tool (devices_at (place_of s new)) given (window_of s)
       due
       → length (window_of s) < window_size → (0 < length texts.output → IsWrittenSoFar tool given before)
       → FailedWrite look.output look.report old new texts fault
-      → EndedRun look tool start (devices_at (place_of s new)) given
+      → AfterRunAnswer look tool start (devices_at (place_of s new)) given
       (Err fault)
   writer_lost tool faults start s old new given before texts due fault written sound same are_due few stood part =
       let front : Texts = record {
@@ -207,7 +207,7 @@ module _ {R W E : Type 0} (look : Looks R W E) where
       let cut_off =
       written_on start s old new given before front written part.output part.report cut in
       rw part.kind (record {
-        unread = window_of s;
+        ungiven = window_of s;
         few = few;
         due = due;
         are_due = are_due;
@@ -231,18 +231,18 @@ module _ {R W E : Type 0} (look : Looks R W E) where
   -- a writer failed to hand on what was written
   pub settle_lost : (tool : Tool) → ReportsFaults tool → (start : Devices R W E) (s : Source R)
       (old new : Writers W E) (given : List ℕ) (fault : IoFault)
-      → HasWritten look start (place_of s old) given (tool.so_far given)
+      → HasGivenAndWritten look start (place_of s old) given (tool.so_far given)
       → NoneFailed look (devices_at (place_of s old))
       → tool.shows given ≡ false → length (window_of s) < window_size
       → FailedSettle look.output look.report old new fault
-      → EndedRun look tool start (devices_at (place_of s new)) given
+      → AfterRunAnswer look tool start (devices_at (place_of s new)) given
       (Err fault)
   settle_lost tool faults start s old new given fault written sound unshown few part =
       let due = tool.so_far given in
       let all : due then no_texts ≡ record { output = take (length due.output) due.output; report = take (length due.report) due.report } =
       then_none due ∙ texts_as (sym (take_all (length due.output) due.output (omega arith))) (sym (take_all (length due.report) due.report (omega arith))) in
       rw part.kind (record {
-        unread = window_of s;
+        ungiven = window_of s;
         few = few;
         due = due;
         are_due = inl refl;
@@ -262,11 +262,11 @@ module _ {R W E : Type 0} (look : Looks R W E) where
   -- the source stopped after some bytes, and what is due was written
   pub reader_lost : (tool : Tool) (start : Devices R W E) (old new : Source R) (w : Writers W E)
       (history given : List ℕ) (texts : Texts) (fault : IoFault)
-      → HasWritten look start (place_of old w) history texts
+      → HasGivenAndWritten look start (place_of old w) history texts
       → NoneFailed look (devices_at (place_of old w))
       → texts ≡ tool.so_far (history ++ given) → tool.shows (history ++ given) ≡ false
       → TakesThenStops look.input old new given fault
-      → EndedRun look tool start (devices_at (place_of new w))
+      → AfterRunAnswer look tool start (devices_at (place_of new w))
       (history ++ given) (Err fault)
   reader_lost tool start old new w history given texts io.Read written sound due unshown stops =
       let none : given ++ stops.past ≡ given = rw stops.cause.0 (append-nil given) in

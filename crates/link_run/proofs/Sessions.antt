@@ -3,7 +3,7 @@ use Rattle.std.proofs.Common.{◌≡◌, ℕ, ◌<◌, ◌≤◌, inl, inr, true
 use Rattle.link_wire.specs.Limits.{window_size, longest_head}
 use Rattle.link_wire.specs.Source.{window_of, Takes, TakesThenStops}
 use Rattle.link_wire.specs.Stream.{End, Clean, Cut, Fault, Reading, reading_of, ended}
-use Rattle.link_wire.specs.Session.{source_of, joined, IsSessionAt, HasMetFault, IsUndecided, HaveSameMessages, OnlyLastShows, AfterOpen, AfterNext, AfterLoad}
+use Rattle.link_wire.specs.Session.{source_of, joined, IsSessionAt, HasMetFault, IsEndBeforeOrInHead, AreSameUpToEnd, AreNeededToDecide, AfterOpen, AfterNext, AfterLoad}
 use Rattle.link_wire.specs.declared.{IoFault.IoFault, Source.Source, fault.Stop.Stop}
 use Rattle.link_wire.specs.declared.fault.Stop.TheVariants as stop
 use Rattle.link_wire.specs.declared.{fault.WireFault.WireFault, session.Session.Session}
@@ -13,7 +13,7 @@ use Rattle.link_report.specs.declared.fault.Fault.TheVariants.{Wire}
 use Rattle.link_run.specs.Made.{Made, with_fault, whole_by, shows_fault, tool_of, is_lasting, stop_of}
 use Rattle.link_run.specs.Reading.{NotHandedOn, AfterFetchContact, AfterFetchMessage, AfterFetchData}
 use Rattle.link_run.specs.{Run.{Texts, ◌then◌, Looks, Devices, EndingStep}, Stages.IsRunAt}
-use Rattle.link_run.specs.Writers.{place_of, on_report, AfterLastWrite, AfterEnd}
+use Rattle.link_run.specs.Writers.{place_of, on_report, AfterLastWrite, AfterStop}
 use Rattle.link_run.specs.declared.{run.Status.Status, writers.Writers.Writers}
 use Rattle.link_run.proofs.Ends.{lasts, few_at_fault, undecided_unshown, standing_unshown}
 use Rattle.link_run.proofs.Runs.{few_over, texts_as}
@@ -25,14 +25,14 @@ IsUncut Clean = Unit {0}
 IsUncut (Cut offset message content) = ⊥
 IsUncut (Fault offset fault) = Unit {0}
 
-undecided_uncut : (end : End) → IsUndecided end → IsUncut end
+undecided_uncut : (end : End) → IsEndBeforeOrInHead end → IsUncut end
 undecided_uncut end is = grind arith
 
 -- For every reading with the same messages the tool writes the same texts, and it stops where that
 -- reading ends.
 abbrev pub SameTexts : (Reading → Made) → Reading → Type 0
 SameTexts of first =
-    (other : Reading) → HaveSameMessages first other → IsUncut other.end
+    (other : Reading) → AreSameUpToEnd first other → IsUncut other.end
     → ((of other).texts ≡ (of first).texts) × ((of other).stop ≡ stop_of other.end)
 
 -- the texts, followed by the line of a fault
@@ -42,7 +42,7 @@ then_fault fault texts = texts_as (append-nil texts.output) refl
 
 -- a part of a message shows no fault before its last byte
 pub part_unshown : (of : Reading → Made) (history given : List ℕ)
-    → SameTexts of (reading_of history) → OnlyLastShows history given
+    → SameTexts of (reading_of history) → AreNeededToDecide history given
     → (count : ℕ) → count < length given
     → shows_fault (of (reading_of (history ++ take count given))).stop ≡ false
 part_unshown of history given same last count less =
@@ -108,7 +108,7 @@ module _ {R W E : Type 0} {look : Looks R W E} {made : List ℕ → Made} {start
         → SameTexts of (reading_of history)
         → (why : Stop) (answer : Result Status IoFault)
         → AfterNext look.input old new history (Err why)
-        → AfterEnd look.output look.report why before after answer
+        → AfterStop look.output look.report why before after answer
         → EndingStep look (tool_of made) start (place_of (source_of new) after) longest_head history answer
     message_stops after session same (stop.Wire offset fault) answer got gives =
         let kept = same (joined (reading_of history) (ended (Fault offset fault))) (record { contact = refl; entries = append-nil _ }) tt in
@@ -126,7 +126,7 @@ module _ {R W E : Type 0} {look : Looks R W E} {made : List ℕ → Made} {start
         → (of (reading_of history)).stop ≡ stop_of (reading_of history).end
         → (why : Stop) (answer : Result Status IoFault)
         → AfterLoad look.input old new history (Err why)
-        → AfterEnd look.output look.report why before after answer
+        → AfterStop look.output look.report why before after answer
         → EndingStep look (tool_of made) start (place_of (source_of new) after) most history answer
     data_stops most after session stops (stop.Wire offset fault) answer got gives =
         let cut : (of (reading_of history)).stop ≡ Some (record { fault = Wire offset fault; lasts = is_lasting fault }) =
@@ -146,7 +146,7 @@ module _ {R W E : Type 0} {look : Looks R W E} {made : List ℕ → Made} {start
     -- a writer failed to hand on what was written before the read
     lost : (most : ℕ) (why : Stop) (answer : Result Status IoFault)
         → NotHandedOn look old new before mid why
-        → AfterEnd look.output look.report why mid after answer
+        → AfterStop look.output look.report why mid after answer
         → EndingStep look (tool_of made) start (place_of (source_of new) after) most history answer
     lost most why answer not_on gives =
         let as_failed = rw not_on.is at gives in
@@ -154,7 +154,7 @@ module _ {R W E : Type 0} {look : Looks R W E} {made : List ℕ → Made} {start
 
     pub message_ended : SameTexts of (reading_of history) → (why : Stop) (answer : Result Status IoFault)
         → AfterFetchMessage look old new before mid history (Err why)
-        → AfterEnd look.output look.report why mid after answer
+        → AfterStop look.output look.report why mid after answer
         → EndingStep look (tool_of made) start (place_of (source_of new) after) longest_head history answer
     message_ended same why answer got gives =
         ⊎_elim
@@ -165,7 +165,7 @@ module _ {R W E : Type 0} {look : Looks R W E} {made : List ℕ → Made} {start
     pub data_ended : (most : ℕ) → (of (reading_of history)).stop ≡ stop_of (reading_of history).end
         → (why : Stop) (answer : Result Status IoFault)
         → AfterFetchData look old new before mid history (Err why)
-        → AfterEnd look.output look.report why mid after answer
+        → AfterStop look.output look.report why mid after answer
         → EndingStep look (tool_of made) start (place_of (source_of new) after) most history answer
     data_ended most stops why answer got gives =
         ⊎_elim
@@ -183,7 +183,7 @@ module _ {R W E : Type 0} {look : Looks R W E} {made : List ℕ → Made} {start
   -- the contact header has a fault, or the reader failed inside it
   contact_stops : SameTexts of (reading_of []) → (why : Stop) (answer : Result Status IoFault)
       → AfterOpen look.input old new (Err why)
-      → AfterEnd look.output look.report why before after answer
+      → AfterStop look.output look.report why before after answer
       → EndingStep look (tool_of made) start (place_of (source_of new) after) 6 [] answer
   contact_stops same (stop.Wire offset fault) answer got gives =
       let kept = same (record { contact = None; entries = []; end = Fault 0 fault }) (rw reading-none (record { contact = refl; entries = refl })) tt in
@@ -203,7 +203,7 @@ module _ {R W E : Type 0} {look : Looks R W E} {made : List ℕ → Made} {start
   -- the contact header was not read, or a writer failed to hand on what was written before
   pub contact_ended : SameTexts of (reading_of []) → (why : Stop) (answer : Result Status IoFault)
       → AfterFetchContact look old new before mid (Err why)
-      → AfterEnd look.output look.report why mid after answer
+      → AfterStop look.output look.report why mid after answer
       → EndingStep look (tool_of made) start (place_of (source_of new) after) 6 [] answer
   contact_ended same why answer got gives =
       ⊎_elim

@@ -3,7 +3,7 @@ use Rattle.std.proofs.Common.{◌≡◌, ℕ, ◌<◌, ◌≤◌, ◌⊎◌, inl
 use Rattle.link_wire.specs.{Limits.window_size, Source.{window_of, Takes, TakesThenStops, IsOver}}
 use Rattle.link_wire.specs.declared.{IoFault.IoFault, Source.Source}
 use Rattle.link_run.specs.Made.{Made, whole_by, shows_fault, tool_of}
-use Rattle.link_run.specs.Run.{Texts, no_texts, ◌then◌, Looks, Devices, Place, devices_at, NoneFailed, HasWritten, AreDue, EndingStep, ContinuedStep, EndedRun, AfterStep, answer_of, progress_after}
+use Rattle.link_run.specs.Run.{Texts, no_texts, ◌then◌, Looks, Devices, DevicesInRun, devices_at, NoneFailed, HasGivenAndWritten, AreDeterminedTexts, EndingStep, ContinuedStep, AfterRunAnswer, AfterStep, answer_of, progress_after}
 use Rattle.link_run.specs.Stages.{IsRunAt, AfterStage, written_by}
 use Rattle.link_run.specs.Writers.{place_of, Writes, FailedWrite, AfterWrite, AfterLastWrite, FailedSettle}
 use Rattle.link_run.specs.declared.{run.Status.Status, writers.Writers.Writers}
@@ -34,7 +34,7 @@ module _ {R W E : Type 0} {look : Looks R W E} {made : List ℕ → Made} {start
     abbrev bytes : List ℕ
     bytes = history ++ given
 
-    still : HasWritten look start (place_of new before) bytes had
+    still : HasGivenAndWritten look start (place_of new before) bytes had
     still = written_given look start old new before history given had at.written takes
 
     still_sound : NoneFailed look (devices_at (place_of new before))
@@ -96,7 +96,7 @@ module _ {R W E : Type 0} {look : Looks R W E} {made : List ℕ → Made} {start
         ⊎ ((shows_fault (made bytes).stop ≡ true) × ((more : List ℕ) → made (bytes ++ more) ≡ made bytes)
         × ((count : ℕ) → count < length given
         → shows_fault (made (history ++ take count given)).stop ≡ false))) where
-      due_last : AreDue look (tool_of made) (devices_at (place_of new after)) bytes (window_of new) (had then texts)
+      due_last : AreDeterminedTexts look (tool_of made) (devices_at (place_of new after)) bytes (window_of new) (had then texts)
       due_last =
           ⊎_elim
           (λ is. inr (all_given look new after is.0, whole))
@@ -105,7 +105,7 @@ module _ {R W E : Type 0} {look : Looks R W E} {made : List ℕ → Made} {start
 
       end_by : (answer : Result Status IoFault)
           → AfterLastWrite look.output look.report before after texts (whole_by (made bytes).stop (made bytes)).status answer
-          → EndedRun look (tool_of made) start (devices_at (place_of new after)) bytes answer
+          → AfterRunAnswer look (tool_of made) start (devices_at (place_of new after)) bytes answer
       end_by (Ok status) gives =
           answered look (tool_of made) start new after bytes status
           (written_on look start new before after bytes had texts still gives.0.output
@@ -181,7 +181,7 @@ module _ {R W E : Type 0} {look : Looks R W E} {made : List ℕ → Made} {start
 
 -- what holds after the last step, by the answer
 pub last_step : {R W E : Type 0} {look : Looks R W E} (made : List ℕ → Made) {start : Devices R W E}
-    (old new : Place R W E) (stands : List ℕ → Type 0) {most : ℕ} {history : List ℕ}
+    (old new : DevicesInRun R W E) (stands : List ℕ → Type 0) {most : ℕ} {history : List ℕ}
     (answer : Result Status IoFault)
     → EndingStep look (tool_of made) start new most history answer
     → AfterStep look (tool_of made) start old new stands most history (answer_of answer)

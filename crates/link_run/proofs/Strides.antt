@@ -3,9 +3,9 @@ use Rattle.std.proofs.Common.{◌≡◌, ℕ, ◌+◌, ◌-◌, ◌<◌, ◌≤�
 use Rattle.std.proofs.lemmas.Bool.{cases_lt}
 use Rattle.link_wire.specs.declared.{IoFault.IoFault, Source.Source}
 use Rattle.link_run.specs.Made.{Made, tool_of}
-use Rattle.link_run.specs.Run.{Tool, Looks, Devices, Place, reach_at, ContinuedStep, EndingStep, AfterStep, AfterStride}
+use Rattle.link_run.specs.Run.{Tool, Looks, Devices, DevicesInRun, reach_at, ContinuedStep, EndingStep, AfterStep, AfterStride}
 use Rattle.link_wire.specs.Source.{given_by}
-use Rattle.link_run.specs.{Stages.{IsRunAt, AfterStage, IsMore}, declared.run.Progress.Progress}
+use Rattle.link_run.specs.{Stages.{IsRunAt, AfterStage, IsNotLastResult}, declared.run.Progress.Progress}
 use Rattle.link_run.specs.declared.run.{Progress.TheVariants.{More, Done}, Status.Status}
 
 -- a step that went on, with another relation that holds of the history and the bytes given
@@ -47,7 +47,7 @@ went_later {stands} {first} {history} went more =
 
 module _ {R W E : Type 0} (look : Looks R W E) (tool : Tool) (start : Devices R W E) where
   -- a step that went on, and then the last one
-  last_later : {now : Place R W E} {first second : ℕ} {history : List ℕ}
+  last_later : {now : DevicesInRun R W E} {first second : ℕ} {history : List ℕ}
       {answer : Result Status IoFault} (bytes : List ℕ) → length bytes ≤ first
       → EndingStep look tool start now second (history ++ bytes) answer
       → EndingStep look tool start now (first + second) history answer
@@ -61,7 +61,7 @@ module _ {R W E : Type 0} (look : Looks R W E) (tool : Tool) (start : Devices R 
         ends = rw append_assoc at last.ends;
       }
 
-  module _ (old mid new : Place R W E) (between stands : List ℕ → Type 0) (history : List ℕ) where
+  module _ (old mid new : DevicesInRun R W E) (between stands : List ℕ → Type 0) (history : List ℕ) where
     -- a step that went on, and then another step
     pub step_then : (first second : ℕ) (result : Result Progress IoFault)
         → (went : ContinuedStep old.source mid.source between first history)
@@ -74,7 +74,7 @@ module _ {R W E : Type 0} (look : Looks R W E) (tool : Tool) (start : Devices R 
 -- A stride is given no more bytes than those of a step, and those that are at hand when its wait
 -- has ended.
 module _ {R W E : Type 0} (look : Looks R W E) (tool : Tool) (start : Devices R W E)
-    (old new : Place R W E) (stands : List ℕ → Type 0) {size : ℕ} (most : ℕ) (history : List ℕ)
+    (old new : DevicesInRun R W E) (stands : List ℕ → Type 0) {size : ℕ} (most : ℕ) (history : List ℕ)
     (some : 0 < most → 0 < size) (counted : given_by old.source ≡ length history) where
   last_bounded : {answer : Result Status IoFault}
       → EndingStep look tool start new size history answer
@@ -117,9 +117,9 @@ module _ {R W E : Type 0} (look : Looks R W E) (tool : Tool) (start : Devices R 
 
 -- what holds after a step of its tool holds of a run, which has no answer if it goes on
 pub stage_kept : {R W E : Type 0} (look : Looks R W E) (made later : List ℕ → Made)
-    (start : Devices R W E) (begun : Bool) (old new : Place R W E) (knows : List ℕ → Type 0)
+    (start : Devices R W E) (begun : Bool) (old new : DevicesInRun R W E) (knows : List ℕ → Type 0)
     (most : ℕ) (history : List ℕ) (answer : Option (Result Status IoFault))
-    (result : Result Progress IoFault) → later ≡ made → (IsMore result → answer ≡ None)
+    (result : Result Progress IoFault) → later ≡ made → (IsNotLastResult result → answer ≡ None)
     → AfterStage look made start begun old new knows most history result
     → AfterStep look (tool_of made) start old new
     (λ bytes. (answer ≡ None) × (IsRunAt look later start begun new bytes × knows bytes))

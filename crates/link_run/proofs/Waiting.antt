@@ -9,8 +9,8 @@ use Rattle.link_wire.specs.Source.{given_by, is_fresh, reader_of, window_of}
 use Rattle.link_wire.specs.declared.Source.{Source}
 use Rattle.link_io.specs.{Source.is_open, declared.source.Flow.Flow}
 use Rattle.link_io.proofs.{Sources.fresh_at, Windows.range_none}
-use Rattle.link_run.specs.{Made.{Made, tool_of}, Reading.{ReadsNothing, CallWaits}}
-use Rattle.link_run.specs.Run.{Texts, no_texts, Tool, Looks, Devices, Place, devices_at, reach_at, Wait, Waits, then_waits, noted, waits_by, HasHandedOn, IsWaitOfPlace, IsPrompt, IsPromptWithin, WaitsAtMostOnce, EndingStep}
+use Rattle.link_run.specs.{Made.{Made, tool_of}, Reading.{ReadsNothing, CallWaitsAtMostOnce}}
+use Rattle.link_run.specs.Run.{Texts, no_texts, Tool, Looks, Devices, DevicesInRun, devices_at, reach_at, Wait, WaitLog, then_waits, noted, waits_by, HasHandedOn, IsWaitOfPlace, IsPrompt, IsPromptWithin, WaitsAtMostOnce, EndingStep}
 use Rattle.link_run.specs.WholeRun.{devices_of, ran_of, IsLogOf, AreSpaced, AfterRun, AfterRunFrom}
 use Rattle.link_run.specs.{NewRun.IsNewRun, Stages.IsRunAt, Writers.{place_of, Writes}}
 use Rattle.link_run.specs.declared.input.{Input.Input, Position.Position}
@@ -51,8 +51,8 @@ module _ {R W E : Type 0} (look : Looks R W E) (source : Source R) (before after
 
 module _ {S R W E : Type 0} {look : Looks R W E} {source : S → Source R} (before : Writers W E) where
   -- after a call, others read nothing
-  pub waits_then : {old mid new : Input S W E} → CallWaits look source old mid before
-      → ReadsNothing look.input source mid new → CallWaits look source old new before
+  pub waits_then : {old mid new : Input S W E} → CallWaitsAtMostOnce look source old mid before
+      → ReadsNothing look.input source mid new → CallWaitsAtMostOnce look source old new before
   waits_then first later =
       ⊎_elim
       (λ none. inl (later.waits ∙ none.0, later.reach ∙ none.1))
@@ -65,10 +65,10 @@ module _ {S R W E : Type 0} {look : Looks R W E} {source : S → Source R} (befo
       first
 
 -- no waits are one more than themselves
-never_longer : {R W E : Type 0} (before after : Waits R W E) (last : Wait W E) → after ≡ before
+never_longer : {R W E : Type 0} (before after : WaitLog R W E) (last : Wait W E) → after ≡ before
     → after ≡ noted before last → ⊥
 never_longer {R} {W} {E} before after last same more =
-    omega (arith, ap (λ (waits : Waits R W E). length waits.each) (sym same ∙ more), length-append before.each (last ∷ []))
+    omega (arith, ap (λ (waits : WaitLog R W E). length waits.each) (sym same ∙ more), length-append before.each (last ∷ []))
 
 -- a text was written, and later all was handed on
 shown_after : {start now later : Output} (text due : List ℕ)
@@ -82,7 +82,7 @@ shown_after {start} {now} {later} text due wrote shown is = record {
 
 module _ {R W E : Type 0} {look : Looks R W E} {made : List ℕ → Made} {start : Devices R W E} where
   -- a run waits with nothing in hand
-  prompt_at : {place : Place R W E} {history : List ℕ} {wait : Wait W E}
+  prompt_at : {place : DevicesInRun R W E} {history : List ℕ} {wait : Wait W E}
       → IsRunAt look made start true place history → IsWaitOfPlace look place wait
       → IsPrompt look (tool_of made) start history wait
   prompt_at {history} stands is =
@@ -101,7 +101,7 @@ module _ {R W E : Type 0} {look : Looks R W E} {made : List ℕ → Made} {start
 
   -- a stage waits before it is given a byte and before it writes, so its run has nothing in hand
   pub prompt_once : {S : Type 0} (of : S → R) (begun : Bool) (new : Source R)
-      {place : Place R W E} {history : List ℕ} {before after : Waits S W E}
+      {place : DevicesInRun R W E} {history : List ℕ} {before after : WaitLog S W E}
       → IsRunAt look made start begun place history → (begun ≡ false → after ≡ before)
       → WaitsAtMostOnce look.input place.source new before after (IsWaitOfPlace look place)
       → WaitsAtMostOnce look.input place.source new (waits_by of before) (waits_by of after)
@@ -148,13 +148,13 @@ module _ {R W E : Type 0} (look : Looks R W E) (tool : Tool) (start : Devices R 
 
   -- The waits of a run since it began. The input was at hand up to the offset `from` then, and now
   -- it is up to the offset `far`.
-  pub record Waited (given : List ℕ) (from far : ℕ) (before now : Waits R W E) : Type 0 where
+  pub record Waited (given : List ℕ) (from far : ℕ) (before now : WaitLog R W E) : Type 0 where
     pub since : List (Wait W E)
     pub are : now ≡ then_waits before since
     pub prompt : ArePrompt given since
     pub spaced : (end : ℕ) → end ≤ far → AreSpaced from since end
 
-  pub waited_none : (from : ℕ) (before : Waits R W E) → Waited [] from from before before
+  pub waited_none : (from : ℕ) (before : WaitLog R W E) → Waited [] from from before before
   waited_none from before = record {
     since = [];
     are = ap (λ each. record { from = before.from; each = each }) (sym (append-nil before.each));
@@ -162,8 +162,8 @@ module _ {R W E : Type 0} (look : Looks R W E) (tool : Tool) (start : Devices R 
     spaced = λ end within. within;
   }
 
-  pub waited_more : {place : Place R W E} (new : Source R) (given more : List ℕ) (from : ℕ)
-      (before now later : Waits R W E)
+  pub waited_more : {place : DevicesInRun R W E} (new : Source R) (given more : List ℕ) (from : ℕ)
+      (before now later : WaitLog R W E)
       → Waited given from (reach_at look.input place.source) before now
       → WaitsAtMostOnce look.input place.source new now later
       (λ wait. IsWaitOfPlace look place wait × IsPrompt look tool start given wait)
@@ -191,7 +191,7 @@ module _ {R W E : Type 0} (look : Looks R W E) (tool : Tool) (start : Devices R 
       waits
 
   -- the last stride of a run: what it gave, and all waits since the run began
-  pub ran_on : {now place : Place R W E} {most from : ℕ} {before between later : Waits R W E}
+  pub ran_on : {now place : DevicesInRun R W E} {most from : ℕ} {before between later : WaitLog R W E}
       {answer : Result Status IoFault} (history : List ℕ)
       (end : RunEnd R W E) → devices_of end ≡ devices_at now → end.answer ≡ answer
       → IsLogOf later (devices_of end) (ran_of end)

@@ -33,12 +33,13 @@ abbrev pub whole_by : Option StreamStop → Made → Outcome
 whole_by None made = record { texts = made.ended; status = if made.good then 0 else 1 }
 whole_by (Some stop) made = record { texts = with_fault stop.fault made.texts; status = 3 }
 
--- the texts that are determined already; they have the line of a fault that lasts
+-- The texts that are determined already. If the bytes stop at a fault that lasts, its line is in
+-- the report.
 abbrev pub so_far_by : Option StreamStop → Texts → Texts
 so_far_by None texts = texts
 so_far_by (Some stop) texts = if stop.lasts then with_fault stop.fault texts else texts
 
--- whether the bytes show a fault: one that lasts
+-- Whether bytes that stop in this way show a fault. They show only a fault that lasts.
 abbrev pub shows_fault : Option StreamStop → Bool
 shows_fault None = false
 shows_fault (Some stop) = stop.lasts
@@ -49,7 +50,7 @@ HasLastingFaults made =
     (bytes more : List ℕ) → shows_fault (made bytes).stop ≡ true
     → shows_fault (made (bytes ++ more)).stop ≡ true
 
--- a tool by what it makes of some bytes: its texts and its status
+-- the tool that makes this of any bytes
 abbrev pub tool_of : (List ℕ → Made) → Tool
 tool_of made = record {
   whole = λ bytes. whole_by (made bytes).stop (made bytes);
@@ -65,8 +66,9 @@ abbrev pub is_lasting : WireFault → Bool
 is_lasting Truncated = false
 is_lasting fault = true
 
--- The fault at which a recorded stream stops. A stream that ends inside the data of a segment is
--- truncated there.
+-- The fault at which a recorded stream stops, if any. A stream that ends inside the data of a
+-- segment is truncated, at the offset of this segment. That fault does not last, since more bytes
+-- may complete the data.
 abbrev pub stop_of : End → Option StreamStop
 stop_of Clean = None
 stop_of (Cut offset message content) =

@@ -1,9 +1,9 @@
--- Relations, but for CallWaits: what a run reads from a session or a source, after it has handed on
--- what was written.
+-- Relations, but for CallWaitsAtMostOnce: what a run reads from a session or a source, after it has
+-- handed on what was written.
 use Rattle.std.specs.Prelude.{◌≡◌, ℕ, ◌<◌, ◌⊎◌, List, [], length, Option, Result, Ok, Err, IfOk, IfErr, IfSome, IsTrue}
 use Rattle.link_wire.specs.Device.{Input as Seen}
 use Rattle.link_wire.specs.Limits.{window_size}
-use Rattle.link_wire.specs.MessageBuffer.{message_of, SegmentTotalsFit}
+use Rattle.link_wire.specs.MessageBuffer.{message_of, IfSegmentItemsHaveTotals}
 use Rattle.link_wire.specs.Session.{source_of, left_of, may_read, is_opened, data_in, HasStopped, IsSessionAt, with_message_read, AfterOpen, AfterNext, AfterLoad}
 use Rattle.link_wire.specs.Source.{window_of, front_of, reach, IsLive, HasEnded, HasFailed, AfterReadyFront}
 use Rattle.link_wire.specs.declared.IoFault.{IoFault}
@@ -12,7 +12,7 @@ use Rattle.link_wire.specs.declared.{Source.Source, fault.Stop.Stop}
 use Rattle.link_wire.specs.declared.fault.Stop.TheVariants as stop
 use Rattle.link_wire.specs.declared.message.{Contact.Contact, Message.Message, MessageBuffer.MessageBuffer}
 use Rattle.link_wire.specs.declared.session.Session.{Session}
-use Rattle.link_run.specs.Run.{Looks, Waits, IsWaitOfPlace, WaitsAtMostOnce}
+use Rattle.link_run.specs.Run.{Looks, WaitLog, IsWaitOfPlace, WaitsAtMostOnce}
 use Rattle.link_run.specs.Writers.{place_of, on_output, next_line, Writes, FailedSettle}
 use Rattle.link_run.specs.declared.{input.Input.Input, writers.Writers.Writers}
 
@@ -21,13 +21,14 @@ module _ {S W E : Type 0} where
   abbrev pub feed_of : Input S W E → S
   feed_of input = input.feed
 
-  -- with which feed and writers the run was made, and when it had to wait for this input
-  abbrev pub waits_of : Input S W E → Waits S W E
+  -- the waits of a run for this input so far, and the feed and writers with which it was made
+  abbrev pub waits_of : Input S W E → WaitLog S W E
   waits_of input = input.log.waits
 
 module _ {R W E : Type 0} (look : Looks R W E)
     (old new : Session R) (before after : Writers W E) where
-  -- a writer failed to hand on what was written, and nothing was read
+  -- A writer failed to hand on what was written before the call, and nothing was read. The window
+  -- was not full.
   pub record NotHandedOn (why : Stop) : Type 0 where
     pub fault : IoFault
     pub is : why ≡ stop.Io fault
@@ -35,8 +36,8 @@ module _ {R W E : Type 0} (look : Looks R W E)
     pub few : length (window_of (source_of old)) < window_size
     pub unsettled : FailedSettle look.output look.report before after fault
 
-  -- Nothing was written, and the session gave the contact header or stopped; or a writer failed to
-  -- hand on what was written.
+  -- The call added no text. The session gave the contact header, or stopped. If a writer failed to
+  -- hand on what was written before the call, `NotHandedOn` holds instead.
   abbrev pub AfterFetchContact : Result Contact Stop → Type 0
   AfterFetchContact (Ok contact) =
       Writes look.output look.report before after (on_output [])
@@ -46,8 +47,9 @@ module _ {R W E : Type 0} (look : Looks R W E)
       × AfterOpen look.input old new (Err why))
       ⊎ NotHandedOn why
 
-  -- Nothing was written, and the session gave this message or stopped; or a writer failed to hand
-  -- on what was written.
+  -- The call added no text. The session gave this message, or `None` at the end of the stream, or
+  -- stopped. If a writer failed to hand on what was written before the call, `NotHandedOn` holds
+  -- instead.
   abbrev pub AfterFetchMessage : (history : List ℕ) → Result (Option (ℕ × Message)) Stop → Type 0
   AfterFetchMessage history (Ok next) =
       Writes look.output look.report before after (on_output [])
@@ -57,7 +59,8 @@ module _ {R W E : Type 0} (look : Looks R W E)
       × AfterNext look.input old new history (Err why))
       ⊎ NotHandedOn why
 
-  -- as `AfterFetchMessage`, for the data of the open segment
+  -- The call added no text. The session made data of the open segment ready, or stopped. If a
+  -- writer failed to hand on what was written before the call, `NotHandedOn` holds instead.
   abbrev pub AfterFetchData : (history : List ℕ) → Result ℕ Stop → Type 0
   AfterFetchData history (Ok n) =
       Writes look.output look.report before after (on_output [])
@@ -67,8 +70,8 @@ module _ {R W E : Type 0} (look : Looks R W E)
       × AfterLoad look.input old new history (Err why))
       ⊎ NotHandedOn why
 
--- Nothing was written, and the source made bytes ready, ended or stopped; or a writer failed to
--- hand on what was written, and nothing was read.
+-- The call added no text. The source made bytes ready, ended or stopped. If a writer failed to hand
+-- on what was written before the call, the source is unchanged, and its window was not full.
 abbrev pub AfterFetchBytes : {R W E : Type 0} → Looks R W E → (old new : Source R)
     → (before after : Writers W E) → Result ℕ IoFault → Type 0
 AfterFetchBytes look old new before after (Ok n) =
@@ -88,16 +91,17 @@ pub record ReadsNothing {S R W E : Type 0} (look : R → Seen) (source : S → S
 
 -- A call waits at most once, before it reads, and after all that was written was handed on. Without
 -- a wait, it reads nothing.
-abbrev pub CallWaits : {S R W E : Type 0} → Looks R W E → (source : S → Source R)
+abbrev pub CallWaitsAtMostOnce : {S R W E : Type 0} → Looks R W E → (source : S → Source R)
     → (old new : Input S W E) → (before : Writers W E) → Type 0
-CallWaits look source old new before =
+CallWaitsAtMostOnce look source old new before =
     WaitsAtMostOnce look.input (source (feed_of old)) (source (feed_of new)) (waits_of old) (waits_of new)
     (IsWaitOfPlace look (place_of (source (feed_of old)) before))
 
--- the same for a call of a session
-abbrev pub SessionWaits : {R W E : Type 0} → Looks R W E → (old new : Input (Session R) W E)
+-- `CallWaitsAtMostOnce` for a call that reads from a session
+abbrev pub SessionWaitsAtMostOnce : {R W E : Type 0} → Looks R W E
+    → (old new : Input (Session R) W E)
     → (before : Writers W E) → Type 0
-SessionWaits look old new before = CallWaits look source_of old new before
+SessionWaitsAtMostOnce look old new before = CallWaitsAtMostOnce look source_of old new before
 
 -- what holds after a call that reads the contact header
 pub record FetchesContact {R W E : Type 0} (look : Looks R W E)
@@ -106,7 +110,8 @@ pub record FetchesContact {R W E : Type 0} (look : Looks R W E)
   pub opened : IfOk result (λ contact. IsTrue (is_opened (feed_of new)))
   pub may_read : IfOk result (λ contact. IsTrue (may_read (feed_of new)))
   pub gives : AfterFetchContact look (feed_of old) (feed_of new) before after result
-  pub waits : SessionWaits look old new before
+  pub waits : SessionWaitsAtMostOnce look old new before
+  -- after an error, as much data of the open segment is to come as before
   pub left : IfErr result (λ why. left_of (feed_of new) ≡ left_of (feed_of old))
   pub line : next_line after ≡ next_line before
 
@@ -119,9 +124,10 @@ pub record FetchesMessage {R W E : Type 0} (look : Looks R W E)
       → AfterFetchMessage look (feed_of old) (feed_of new) before after history
       (with_message_read (message_of message) result)
   pub waits : (history : List ℕ) → IsSessionAt look.input (feed_of old) history
-      → SessionWaits look old new before
-  -- the items of a segment have their totals
-  pub totals : IfOk result (λ got. IfSome got (λ offset. SegmentTotalsFit message))
+      → SessionWaitsAtMostOnce look old new before
+  -- if the message is a segment, the total of each Transfer Length item was kept
+  pub totals : IfOk result (λ got. IfSome got (λ offset. IfSegmentItemsHaveTotals message))
+  -- after an error, as much data of the open segment is to come as before
   pub left : IfErr result (λ why. left_of (feed_of new) ≡ left_of (feed_of old))
   pub line : next_line after ≡ next_line before
   pub stopped : (why : Stop) → HasStopped (feed_of old) why
@@ -138,7 +144,8 @@ pub record FetchesData {R W E : Type 0} (look : Looks R W E)
   pub gives : (history : List ℕ) → IsSessionAt look.input (feed_of old) history
       → AfterFetchData look (feed_of old) (feed_of new) before after history result
   pub waits : (history : List ℕ) → IsSessionAt look.input (feed_of old) history
-      → SessionWaits look old new before
+      → SessionWaitsAtMostOnce look old new before
+  -- after an error, as much data of the open segment is to come as before
   pub left : IfErr result (λ why. left_of (feed_of new) ≡ left_of (feed_of old))
   pub line : next_line after ≡ next_line before
   pub stopped : (why : Stop) → HasStopped (feed_of old) why
@@ -146,9 +153,9 @@ pub record FetchesData {R W E : Type 0} (look : Looks R W E)
 
 -- The source had ended or failed, and `again` is what it returned then. The call returned it again,
 -- or a writer failed to hand on what was written.
-abbrev pub AfterRepeatedLoad : {R W E : Type 0} → Looks R W E → (before after : Writers W E)
+abbrev pub AfterLoadOfEndedSource : {R W E : Type 0} → Looks R W E → (before after : Writers W E)
     → (again result : Result ℕ IoFault) → Type 0
-AfterRepeatedLoad look before after again result =
+AfterLoadOfEndedSource look before after again result =
     ((result ≡ again) × Writes look.output look.report before after (on_output []))
     ⊎ ((result ≡ Err io.Write) × FailedSettle look.output look.report before after io.Write)
 
@@ -162,9 +169,9 @@ pub record FetchesBytes {R W E : Type 0} (look : Looks R W E)
       → (new ≡ old) × (after ≡ before) × (result ≡ Ok (length (front_of look.input (feed_of old))))
   pub gives : IsLive look.input (feed_of old)
       → AfterFetchBytes look (feed_of old) (feed_of new) before after result
-  pub waits : CallWaits look (λ source. source) old new before
+  pub waits : CallWaitsAtMostOnce look (λ source. source) old new before
   pub line : next_line after ≡ next_line before
   pub ended : HasEnded (feed_of old)
-      → (feed_of new ≡ feed_of old) × AfterRepeatedLoad look before after (Ok 0) result
+      → (feed_of new ≡ feed_of old) × AfterLoadOfEndedSource look before after (Ok 0) result
   pub failed : (fault : IoFault) → HasFailed (feed_of old) fault
-      → (feed_of new ≡ feed_of old) × AfterRepeatedLoad look before after (Err fault) result
+      → (feed_of new ≡ feed_of old) × AfterLoadOfEndedSource look before after (Err fault) result

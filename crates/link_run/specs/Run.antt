@@ -61,13 +61,13 @@ abbrev pub looks : {R W E : Type 0} → (R → Input) → (W → Output) → (E 
 looks input output report = record { input = input; output = output; report = report }
 
 -- the state of a run's devices: its source, which has the reader, and its two writers
-pub record Place (R W E : Type 0) : Type 0 where
+pub record DevicesInRun (R W E : Type 0) : Type 0 where
   pub source : Source R
   pub output : W
   pub report : E
 
 -- the three devices in this state
-abbrev pub devices_at : {R W E : Type 0} → Place R W E → Devices R W E
+abbrev pub devices_at : {R W E : Type 0} → DevicesInRun R W E → Devices R W E
 devices_at place = devices (reader_of place.source) place.output place.report
 
 -- how far the input is at hand: the offset after the bytes at hand
@@ -79,7 +79,8 @@ abbrev pub answer_of : Result Status IoFault → Result Progress IoFault
 answer_of (Ok status) = Ok (Done status)
 answer_of (Err fault) = Err fault
 
--- the result of a step, from that of its write; the step is the last only if the write failed
+-- The result of a step, from the result of its write. The step is the last only if the write
+-- failed.
 abbrev pub progress_after : Result (Unit {0}) IoFault → Result Progress IoFault
 progress_after (Ok done) = Ok More
 progress_after (Err fault) = Err fault
@@ -102,25 +103,25 @@ pub record Wait (W E : Type 0) : Type 0 where
   pub reach : ℕ
 
 -- The waits of a run in order, and the devices with which the run was made.
-pub record Waits (R W E : Type 0) : Type 0 where
+pub record WaitLog (R W E : Type 0) : Type 0 where
   pub from : Devices R W E
   pub each : List (Wait W E)
 
 -- no waits, of a run that was made with these devices
-abbrev pub no_waits : {R W E : Type 0} → Devices R W E → Waits R W E
+abbrev pub no_waits : {R W E : Type 0} → Devices R W E → WaitLog R W E
 no_waits start = record { from = start; each = [] }
 
 -- more waits after these
-abbrev pub then_waits : {R W E : Type 0} → Waits R W E → List (Wait W E) → Waits R W E
+abbrev pub then_waits : {R W E : Type 0} → WaitLog R W E → List (Wait W E) → WaitLog R W E
 then_waits waits more = record { from = waits.from; each = waits.each ++ more }
 
 -- these waits, and then one more
-abbrev pub noted : {R W E : Type 0} → Waits R W E → Wait W E → Waits R W E
+abbrev pub noted : {R W E : Type 0} → WaitLog R W E → Wait W E → WaitLog R W E
 noted waits wait = then_waits waits (wait ∷ [])
 
--- The waits of a run, from those in the log of its input. Where the log has a feed, the waits have
--- the reader of this feed.
-abbrev pub waits_by : {S R W E : Type 0} → (S → R) → Waits S W E → Waits R W E
+-- The wait log of a run, from the log that its input keeps. The input's log begins with a feed. The
+-- result begins with the reader of this feed.
+abbrev pub waits_by : {S R W E : Type 0} → (S → R) → WaitLog S W E → WaitLog R W E
 waits_by reader_of waits = record {
   from = devices (reader_of waits.from.reader) waits.from.output waits.from.report;
   each = waits.each;
@@ -135,7 +136,7 @@ module _ {R W E : Type 0} (look : Looks R W E) where
   -- The run waited at this place. Between the place and the wait, it was given nothing, added no
   -- text, and handed on all that was written. Of the bytes that it had taken, less than a window
   -- was not given.
-  pub record IsWaitOfPlace (place : Place R W E) (wait : Wait W E) : Type 0 where
+  pub record IsWaitOfPlace (place : DevicesInRun R W E) (wait : Wait W E) : Type 0 where
     pub given : wait.position.given ≡ given_by place.source
     pub ahead : wait.position.ahead ≡ length (window_of place.source)
     pub few : wait.position.ahead < window_size
@@ -158,27 +159,28 @@ module _ {R W E : Type 0} (look : Looks R W E) where
       pub output_sound : (look.output wait.writers.output).failed ≡ false
       pub report_sound : (look.report wait.writers.report).failed ≡ false
 
-    -- At this wait, the run was prompt for a prefix of these bytes, which are those given until
-    -- then.
+    -- Until this wait, the run had been given a prefix of these bytes. At the wait, it was prompt
+    -- for this prefix.
     pub record IsPromptWithin (given : List ℕ) (wait : Wait W E) : Type 0 where
       pub front : List ℕ
       pub rest : List ℕ
       pub parts : given ≡ front ++ rest
       pub prompt : IsPrompt front wait
 
--- There was at most one wait, and `is` holds of it. When it ended, the input was at hand as far as
--- it is now. If there was none, nothing was read.
+-- There was at most one wait, and `is` holds of it. When it ended, the bytes at hand ended at the
+-- same offset as they do now. If there was no wait, nothing was read.
 abbrev pub WaitsAtMostOnce : {R S W E : Type 0} → (R → Input) → (old new : Source R)
-    → (before after : Waits S W E) → (is : Wait W E → Type 0) → Type 0
+    → (before after : WaitLog S W E) → (is : Wait W E → Type 0) → Type 0
 WaitsAtMostOnce {W} {E} look old new before after is =
     ((after ≡ before) × (reach look new ≡ reach look old))
     ⊎ ((wait : Wait W E) × (after ≡ noted before wait) × (wait.reach ≡ reach_at look new) × is wait)
 
--- A step of a run that was given these bytes waits at most once: before it is given a byte, and
--- before it writes.
-abbrev pub StepWaits : {R W E : Type 0} → Looks R W E → Tool → (start : Devices R W E)
-    → (given : List ℕ) → (old new : Place R W E) → (before after : Waits R W E) → Type 0
-StepWaits look tool start given old new before after =
+-- A step waits at most once, before it is given a byte and before it writes. `given` is all that
+-- the run was given before the step. At the wait, the run has handed on all text that these bytes
+-- determine.
+abbrev pub StepWaitsAtMostOnce : {R W E : Type 0} → Looks R W E → Tool → (start : Devices R W E)
+    → (given : List ℕ) → (old new : DevicesInRun R W E) → (before after : WaitLog R W E) → Type 0
+StepWaitsAtMostOnce look tool start given old new before after =
     WaitsAtMostOnce look.input old.source new.source before after
     (λ wait. IsWaitOfPlace look old wait × IsPrompt look tool start given wait)
 
@@ -190,7 +192,7 @@ HasNoEarlierFault tool given =
 module _ {R : Type 0} where
   -- A step was not the last. It was given at most `most` bytes, and at least one if `most` is not
   -- 0. The relation `stands` holds of the history and these bytes. Less than a window of bytes was
-  -- read and not given, so no more was read than is needed.
+  -- read and not given.
   pub record ContinuedStep (old new : Source R) (stands : List ℕ → Type 0) (most : ℕ)
       (history : List ℕ) : Type 0 where
     pub given : List ℕ
@@ -208,7 +210,7 @@ module _ {R W E : Type 0} (look : Looks R W E) where
     pub report : (look.report devices.report).failed ≡ false
 
   -- since the devices were as in `start`, these bytes were given, and these texts were written
-  pub record HasWritten (start : Devices R W E) (now : Place R W E) (bytes : List ℕ)
+  pub record HasGivenAndWritten (start : Devices R W E) (now : DevicesInRun R W E) (bytes : List ℕ)
       (texts : Texts) : Type 0 where
     pub takes : Consumes (look.input start.reader).left (ahead look.input now.source) bytes
     pub count : given_by now.source ≡ length bytes
@@ -216,59 +218,61 @@ module _ {R W E : Type 0} (look : Looks R W E) where
     pub reports : Appends (look.report start.report).written
         (look.report now.report).written texts.report
 
-  -- as `HasWritten`, for the devices that a run has returned: these bytes were taken
-  pub record HasWrittenAtEnd (start now : Devices R W E) (bytes : List ℕ)
+  -- As `HasGivenAndWritten`, for the devices that a run has returned. The run took these bytes from
+  -- the reader. It need not have given the last of them.
+  pub record HasTakenAndWrittenAtEnd (start now : Devices R W E) (bytes : List ℕ)
       (texts : Texts) : Type 0 where
     pub takes : Consumes (look.input start.reader).left (look.input now.reader).left bytes
     pub writes : Appends (look.output start.output).written (look.output now.output).written texts.output
     pub reports : Appends (look.report start.report).written
         (look.report now.report).written texts.report
 
-  -- all of the input was given
-  abbrev pub IsAllGiven : Devices R W E → (unread : List ℕ) → Type 0
-  IsAllGiven now unread = (unread ≡ []) × IsAtEnd (look.input now.reader).left
+  -- All of the input was given. `ungiven` is what was read and not given, so it is empty.
+  abbrev pub IsAllGiven : Devices R W E → (ungiven : List ℕ) → Type 0
+  IsAllGiven now ungiven = (ungiven ≡ []) × IsAtEnd (look.input now.reader).left
 
-  -- The run has written the texts of the bytes that it was given, and no device failed. These bytes
-  -- are the whole input, or no further bytes change their outcome. Less than a window of bytes was
-  -- read and not given, so no more was read than is needed.
+  -- The run was given the bytes `given`. `ungiven` is what was read and not given, less than a
+  -- window of bytes. The run has written the texts of an input of exactly the bytes `given`, and
+  -- `status` is the status of that input. No device failed. The bytes `given` are the whole input,
+  -- or no further bytes change their outcome.
   pub record FinishedRun (tool : Tool) (start now : Devices R W E) (given : List ℕ)
       (status : Status) : Type 0 where
-    pub unread : List ℕ
-    pub few : length unread < window_size
-    pub written : HasWrittenAtEnd start now (given ++ unread) (tool.whole given).texts
+    pub ungiven : List ℕ
+    pub few : length ungiven < window_size
+    pub written : HasTakenAndWrittenAtEnd start now (given ++ ungiven) (tool.whole given).texts
     pub sound : NoneFailed now
     pub ends : status.0 ≡ (tool.whole given).status
-    pub settled : IsAllGiven now unread
+    pub settled : IsAllGiven now ungiven
         ⊎ ((more : List ℕ) → tool.whole (given ++ more) ≡ tool.whole given)
 
   -- The reader failed, and no writer did. All bytes that were read were given. They show no fault,
   -- and the texts are those that they determine.
   pub record LostReader (tool : Tool) (start now : Devices R W E) (given : List ℕ) : Type 0 where
     pub unshown : tool.shows given ≡ false
-    pub written : HasWrittenAtEnd start now given (tool.so_far given)
+    pub written : HasTakenAndWrittenAtEnd start now given (tool.so_far given)
     pub failed : (look.input now.reader).failed ≡ true
     pub output : (look.output now.output).failed ≡ false
     pub report : (look.report now.report).failed ≡ false
 
-  -- A byte past the longest input was read, and no device failed. The bytes `past` of the last read
-  -- were not given. The bytes `given` show no fault, and the texts are those that `given`
-  -- determines.
+  -- No device failed. `past` is the bytes of the last read. At least one of them is past the
+  -- longest input, and none of them was given. The bytes `given` show no fault, and the texts are
+  -- the texts that `given` determines.
   pub record ExceededInputLimit (tool : Tool) (start now : Devices R W E)
       (given : List ℕ) : Type 0 where
     pub unshown : tool.shows given ≡ false
     pub past : List ℕ
     pub few : length past ≤ window_size
     pub limit : longest_input < length given + length past
-    pub written : HasWrittenAtEnd start now (given ++ past) (tool.so_far given)
+    pub written : HasTakenAndWrittenAtEnd start now (given ++ past) (tool.so_far given)
     pub reader : (look.input now.reader).failed ≡ false
     pub output : (look.output now.output).failed ≡ false
     pub report : (look.report now.report).failed ≡ false
 
-  -- The texts that the bytes given determine are due. If these bytes are the whole input, the texts
-  -- of the whole input may be due instead.
-  abbrev pub AreDue : Tool → Devices R W E → (given unread : List ℕ) → Texts → Type 0
-  AreDue tool now given unread texts =
-      (texts ≡ tool.so_far given) ⊎ (IsAllGiven now unread × (texts ≡ (tool.whole given).texts))
+  -- `texts` are what the given bytes determine. If these bytes are the whole input, `texts` may be
+  -- the texts of the whole input instead.
+  abbrev pub AreDeterminedTexts : Tool → Devices R W E → (given ungiven : List ℕ) → Texts → Type 0
+  AreDeterminedTexts tool now given ungiven texts =
+      (texts ≡ tool.so_far given) ⊎ (IsAllGiven now ungiven × (texts ≡ (tool.whole given).texts))
 
   -- Exactly one writer failed. If it is the output, no line of the report is about bytes that the
   -- output lacks. If it is the report, the output is whole.
@@ -280,26 +284,26 @@ module _ {R W E : Type 0} (look : Looks R W E) where
       ⊎ (((look.report now.report).failed ≡ true) × ((look.output now.output).failed ≡ false)
       × (length due.output ≤ output_count))
 
-  -- One writer failed, and the reader did not. Of the texts that are due (`AreDue`), the first
-  -- `output_count` bytes of the output and `report_count` bytes of the report were written. If the
-  -- bytes given show a fault, the writer that failed lacks some of its text. If they are the whole
-  -- of an input that ends in a fault, the texts of that input are incomplete. So a write failure
-  -- never replaces a fault that was reported.
+  -- One writer failed, and the reader did not. Of the texts `due`, the first `output_count` bytes
+  -- of the output and `report_count` bytes of the report were written. The bytes `ungiven` were
+  -- read and not given. If the given bytes show a fault, the writer that failed lacks some of its
+  -- text. If all of the input was given, and it ends in a fault, some text of the whole input was
+  -- not written. So a write failure never replaces a reported fault.
   pub record LostWriter (tool : Tool) (start now : Devices R W E) (given : List ℕ) : Type 0 where
-    pub unread : List ℕ
-    pub few : length unread < window_size
+    pub ungiven : List ℕ
+    pub few : length ungiven < window_size
     pub due : Texts
-    pub are_due : AreDue tool now given unread due
+    pub are_due : AreDeterminedTexts tool now given ungiven due
     pub output_count : ℕ
     pub report_count : ℕ
-    pub written : HasWrittenAtEnd start now (given ++ unread)
+    pub written : HasTakenAndWrittenAtEnd start now (given ++ ungiven)
         (record { output = take output_count due.output; report = take report_count due.report })
     pub reader : (look.input now.reader).failed ≡ false
     pub failed : HasLostOneWriter tool now given due output_count report_count
     pub unended : tool.shows given ≡ true
         → (output_count < length due.output)
         ⊎ (((look.report now.report).failed ≡ true) × (report_count < length due.report))
-    pub unreported : IsAllGiven now unread → (tool.whole given).status ≡ 3
+    pub unreported : IsAllGiven now ungiven → (tool.whole given).status ≡ 3
         → (output_count < length (tool.whole given).texts.output)
         ⊎ (report_count < length (tool.whole given).texts.report)
 
@@ -311,23 +315,25 @@ module _ {R W E : Type 0} (look : Looks R W E) where
   FailedRun tool start now given io.Memory = ⊥
 
   -- what holds after each answer
-  abbrev pub EndedRun : Tool → Devices R W E → Devices R W E → List ℕ
+  abbrev pub AfterRunAnswer : Tool → Devices R W E → Devices R W E → List ℕ
       → Result Status IoFault → Type 0
-  EndedRun tool start now given (Ok status) = FinishedRun tool start now given status
-  EndedRun tool start now given (Err fault) = FailedRun tool start now given fault
+  AfterRunAnswer tool start now given (Ok status) = FinishedRun tool start now given status
+  AfterRunAnswer tool start now given (Err fault) = FailedRun tool start now given fault
 
-  -- a step was the last of its run, and was given at most `most` bytes
-  pub record EndingStep (tool : Tool) (start : Devices R W E) (now : Place R W E) (most : ℕ)
+  -- A step was the last of its run. It was given the bytes `given`, at most `most` of them. No byte
+  -- was given after the bytes had shown a fault.
+  pub record EndingStep (tool : Tool) (start : Devices R W E) (now : DevicesInRun R W E) (most : ℕ)
       (history : List ℕ) (answer : Result Status IoFault) : Type 0 where
     pub given : List ℕ
     pub size : length given ≤ most
     pub count : given_by now.source ≡ length (history ++ given)
-    pub gave : EndedRun tool start (devices_at now) (history ++ given) answer
+    pub gave : AfterRunAnswer tool start (devices_at now) (history ++ given) answer
     pub ends : HasNoEarlierFault tool (history ++ given)
 
   -- what holds after a step, by its result
-  abbrev pub AfterStep : Tool → Devices R W E → (old new : Place R W E) → (stands : List ℕ → Type 0)
-      → (most : ℕ) → (history : List ℕ) → Result Progress IoFault → Type 0
+  abbrev pub AfterStep : Tool → Devices R W E → (old new : DevicesInRun R W E)
+      → (stands : List ℕ → Type 0) → (most : ℕ) → (history : List ℕ) → Result Progress IoFault
+      → Type 0
   AfterStep tool start old new stands most history (Ok More) =
       ContinuedStep old.source new.source stands most history
   AfterStep tool start old new stands most history (Ok (Done status)) =
@@ -335,9 +341,10 @@ module _ {R W E : Type 0} (look : Looks R W E) where
   AfterStep tool start old new stands most history (Err fault) =
       EndingStep tool start new most history (Err fault)
 
-  -- What holds after a stride: the same as after a step, but with another bound. A stride is given
-  -- at most the bytes of one step, and those that were at hand when its wait ended.
-  abbrev pub AfterStride : Tool → Devices R W E → (old new : Place R W E)
+  -- What holds after a stride: the same as after a step that is given at most `size` bytes. `size`
+  -- is at most `most`, the bound of one step, plus the number of bytes that were at hand when the
+  -- wait ended. It is 0 only if `most` is 0.
+  abbrev pub AfterStride : Tool → Devices R W E → (old new : DevicesInRun R W E)
       → (stands : List ℕ → Type 0) → (most : ℕ) → (history : List ℕ)
       → Result Progress IoFault → Type 0
   AfterStride tool start old new stands most history result =

@@ -1,7 +1,7 @@
 -- What holds after a whole run.
 use Rattle.std.specs.Prelude.{◌≡◌, ℕ, ◌≤◌, List, [], ◌∷◌, length, Result, All}
 use Rattle.link_wire.specs.declared.IoFault.{IoFault}
-use Rattle.link_run.specs.Run.{Tool, Looks, Devices, devices, Wait, Waits, then_waits, IsPromptWithin, HasNoEarlierFault, EndedRun}
+use Rattle.link_run.specs.Run.{Tool, Looks, Devices, devices, Wait, WaitLog, then_waits, IsPromptWithin, HasNoEarlierFault, AfterRunAnswer}
 use Rattle.link_run.specs.declared.{run.{RunEnd.RunEnd, Status.Status}, log.Ran.Ran}
 
 module _ {R W E : Type 0} where
@@ -15,14 +15,14 @@ module _ {R W E : Type 0} where
 
   -- This is the log of a run that had all these waits since it was made, and ended with these
   -- devices.
-  pub record IsLogOf (all : Waits R W E) (now : Devices R W E) (ran : Ran R W E) : Type 0 where
+  pub record IsLogOf (all : WaitLog R W E) (now : Devices R W E) (ran : Ran R W E) : Type 0 where
     pub from : ran.from ≡ all.from
     pub to : ran.to ≡ now
     pub waits : ran.waits ≡ all.each
 
--- The waits are spaced. Between two of them, before the first and after the last, only bytes were
--- given that were at hand when the wait before had ended. `reach` is how far the input was at hand
--- before the first, and `end` is the offset after the bytes given.
+-- The waits are spaced. Before the first wait, only bytes before the offset `reach` were given.
+-- After each wait, until the next one, only bytes were given that were at hand when it had ended.
+-- After the last wait, this holds until the offset `end`.
 abbrev pub AreSpaced : {W E : Type 0} → (reach : ℕ) → List (Wait W E) → (end : ℕ) → Type 0
 AreSpaced reach [] end = end ≤ reach
 AreSpaced reach (wait ∷ more) end =
@@ -35,7 +35,7 @@ module _ {R W E : Type 0} (look : Looks R W E) where
   pub record RanToEnd (tool : Tool) (start now : Devices R W E) (reach : ℕ)
       (waits : List (Wait W E)) (answer : Result Status IoFault) : Type 0 where
     pub given : List ℕ
-    pub gave : EndedRun look tool start now given answer
+    pub gave : AfterRunAnswer look tool start now given answer
     pub ends : HasNoEarlierFault tool given
     pub prompt : All (IsPromptWithin look tool start given) waits
     pub spaced : AreSpaced reach waits (length given)
@@ -50,7 +50,7 @@ module _ {R W E : Type 0} (look : Looks R W E) where
 
   -- What holds after the rest of a run that had these waits before. The input was at hand up to the
   -- offset `reach`.
-  pub record AfterRunFrom (tool : Tool) (start : Devices R W E) (reach : ℕ) (before : Waits R W E)
+  pub record AfterRunFrom (tool : Tool) (start : Devices R W E) (reach : ℕ) (before : WaitLog R W E)
       (end : RunEnd R W E) : Type 0 where
     pub since : List (Wait W E)
     pub log : IsLogOf (then_waits before since) (devices_of end) (ran_of end)

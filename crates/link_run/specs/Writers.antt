@@ -8,7 +8,7 @@ use Rattle.link_wire.specs.declared.{Source.Source, fault.Stop.Stop}
 use Rattle.link_wire.specs.declared.fault.Stop.TheVariants as stop
 use Rattle.link_report.specs.Fault.{fault_text}
 use Rattle.link_report.specs.declared.fault.Fault.TheVariants.{Wire}
-use Rattle.link_run.specs.Run.{Texts, Place}
+use Rattle.link_run.specs.Run.{Texts, DevicesInRun}
 use Rattle.link_run.specs.declared.{run.Status.Status, writers.Writers.Writers}
 
 -- a text for one of the two writers
@@ -26,7 +26,7 @@ abbrev pub next_line : {W E : Type 0} → Writers W E → List ℕ
 next_line writers = writers.line.items
 
 -- the state of a run's devices, from its source and its writers
-abbrev pub place_of : {R W E : Type 0} → Source R → Writers W E → Place R W E
+abbrev pub place_of : {R W E : Type 0} → Source R → Writers W E → DevicesInRun R W E
 place_of source writers =
     record { source = source; output = writers.output; report = writers.report }
 
@@ -39,8 +39,8 @@ module _ {W E : Type 0} (out_look : W → Output) (report_look : E → Output) w
     pub output_sound : (out_look new.output).failed ≡ (out_look old.output).failed
     pub report_sound : (report_look new.report).failed ≡ (report_look old.report).failed
 
-  -- the output failed before all of its text was written, and nothing was written to the report;
-  -- the counts are the numbers of bytes that were written
+  -- The output failed after the first `output_count` bytes of its text, which are not all of it.
+  -- Nothing was written to the report, and the report did not fail.
   pub record LostOutput (old new : Writers W E) (texts : Texts)
       (output_count report_count : ℕ) : Type 0 where
     pub failed : (out_look new.output).failed ≡ true
@@ -48,8 +48,9 @@ module _ {W E : Type 0} (out_look : W → Output) (report_look : E → Output) w
     pub none : report_count ≡ 0
     pub report_sound : (report_look new.report).failed ≡ (report_look old.report).failed
 
-  -- the whole text of the output was written, and the report failed before all of its own text was
-  -- written; the counts are the numbers of bytes that were written
+  -- The report failed after the first `report_count` bytes of its text, which are not all of it.
+  -- The output did not fail. `output_count` is at least the length of its text, so all of that was
+  -- written.
   pub record LostReport (old new : Writers W E) (texts : Texts)
       (output_count report_count : ℕ) : Type 0 where
     pub failed : (report_look new.report).failed ≡ true
@@ -82,11 +83,11 @@ module _ {W E : Type 0} (out_look : W → Output) (report_look : E → Output) w
   AfterLastWrite old new texts status (Err fault) = FailedWrite old new texts fault
 
   -- A fault of the wire got its line in the report and the status 3, or a writer failed. Any other
-  -- failure is returned as it is, and nothing was written.
-  abbrev pub AfterEnd : Stop → Writers W E → Writers W E → Result Status IoFault → Type 0
-  AfterEnd (stop.Wire offset fault) old new answer =
+  -- stop is returned as an error, and nothing was written.
+  abbrev pub AfterStop : Stop → Writers W E → Writers W E → Result Status IoFault → Type 0
+  AfterStop (stop.Wire offset fault) old new answer =
       AfterLastWrite old new (on_report (fault_text (Wire offset fault))) 3 answer
-  AfterEnd (stop.Io fault) old new answer = (answer ≡ Err fault) × (new ≡ old)
+  AfterStop (stop.Io fault) old new answer = (answer ≡ Err fault) × (new ≡ old)
 
   -- A writer failed to hand on what was written, and no text was added. The output is handed on
   -- before the report.
@@ -99,7 +100,8 @@ module _ {W E : Type 0} (out_look : W → Output) (report_look : E → Output) w
         ⊎ (((report_look new.report).failed ≡ true)
         × ((out_look new.output).failed ≡ (out_look old.output).failed))
 
-  -- everything written was handed on, or a writer failed
+  -- A call of `settle` added no text. Either no writer failed, or `FailedSettle` holds. Other
+  -- clauses of `settle` state that everything written before was handed on.
   abbrev pub AfterSettle : Writers W E → Writers W E → Result (Unit {0}) IoFault → Type 0
   AfterSettle old new (Ok done) = Writes old new (on_output [])
   AfterSettle old new (Err fault) = FailedSettle old new fault

@@ -6,7 +6,7 @@
 //! is noted, they read nothing.
 
 ghost use Rattle.std.specs.Prelude.{◌≡◌, ◌<◌, ℕ, List, [], length, IfSome, IsTrue};
-ghost use Rattle.link_wire.specs.MessageBuffer.{message_of, SegmentTotalsFit};
+ghost use Rattle.link_wire.specs.MessageBuffer.{message_of, IfSegmentItemsHaveTotals};
 ghost use Rattle.link_wire.specs.Session.{source_of, may_read, is_opened, data_in, left_of, IsSessionAt, HasStopped};
 ghost use Rattle.link_wire.specs.Source.{given_by, window_of, front_of, IsLive};
 ghost use Rattle.link_run.specs.Run.{looks};
@@ -154,7 +154,7 @@ impl<R: InDevice, W: OutDevice, E: OutDevice> Input<Session<R>, W, E> {
             → IfSome result
             (λ offset. GivenWholeMessage R.state (feed_of self.old) (feed_of self.new)
             history offset (message_of message.new)) }
-        ensures totals { IfSome result (λ offset. SegmentTotalsFit message.new) }
+        ensures totals { IfSome result (λ offset. IfSegmentItemsHaveTotals message.new) }
         ensures opened { IsTrue (is_opened (feed_of self.new)) }
         ensures stopped { (stop : _) → HasStopped (feed_of self.old) stop → result ≡ None }
         ensures shrinks { IfSome result (λ offset.
@@ -281,7 +281,7 @@ impl<R: InDevice, W: OutDevice, E: OutDevice> Input<Source<R>, W, E> {
     }
 }
 
-/// Reads the head of the next message, if it is rare or not all of it is in the window.
+/// Does [`Input::next_message`] for a head that is not frequent, or is not whole in the window.
 #[cold]
 #[inline(never)]
 fn read_message<R: InDevice, W: OutDevice, E: OutDevice>(
@@ -310,7 +310,7 @@ fn read_message<R: InDevice, W: OutDevice, E: OutDevice>(
     }
 }
 
-/// Makes data of the segment ready if none is at hand.
+/// Does [`Input::load_data`] when no data of the segment is at hand.
 #[cold]
 #[inline(never)]
 fn load_on<R: InDevice, W: OutDevice, E: OutDevice>(
@@ -335,7 +335,8 @@ fn load_on<R: InDevice, W: OutDevice, E: OutDevice>(
     }
 }
 
-/// Makes bytes ready if none is at hand, so the read may have to wait.
+/// Does [`Input::ready_bytes`] when no byte is at hand. The read may have to wait, so the call
+/// first hands on what was written.
 #[cold]
 #[inline(never)]
 fn read_bytes<R: InDevice, W: OutDevice, E: OutDevice>(
@@ -360,7 +361,7 @@ fn read_bytes<R: InDevice, W: OutDevice, E: OutDevice>(
     }
 }
 
-/// How far the source of a session was read.
+/// How many bytes the source of a session has given, and how many more it has taken.
 #[inline(always)]
 fn position_of<R: InDevice>(session: &Session<R>) -> Position
     ensures given { result.given ≡ given_by (source_of session.now) }

@@ -7,7 +7,7 @@
 
 ghost use Rattle.std.specs.Prelude.{List};
 ghost use Rattle.std.specs.Borrow.{ftrue};
-ghost use Rattle.link_run.specs.Run.{Devices, Wait, Waits};
+ghost use Rattle.link_run.specs.Run.{Devices, Wait, WaitLog};
 
 use crate::input::Position;
 use crate::writers::Writers;
@@ -17,7 +17,7 @@ use std::marker::{Model, PhantomData};
 #[derive(Drop)]
 pub(crate) struct Log<S, W, E> {
     of: PhantomData<(S, W, E)>,
-    pub ghost waits: { Waits S W E },
+    pub ghost waits: { WaitLog S W E },
 }
 
 impl<S, W, E> Model for Log<S, W, E> {

@@ -17,7 +17,7 @@ pub enum Next<S> {
 impl<S: Copy> Next<S> {
     ghost use Rattle.link_run.specs.Next.{next_of, progress_of, stage_after};
 
-    /// What comes after a write: a stage, or the end of the run if a writer failed.
+    /// What comes after a write: the stage `later`, or the end of the run if a writer failed.
     #[inline(always)]
     pub fn of(later: S, written: Result<(), IoFault>) -> Next<S>
         ensures { result ≡ next_of later written }

@@ -2,7 +2,7 @@
 
 ghost use Rattle.std.specs.Prelude.{◌≡◌, ◌<◌, ℕ, List, [], Result, Err};
 ghost use Rattle.link_wire.specs.declared.IoFault.{IoFault};
-ghost use Rattle.link_run.specs.Run.{Tool, Devices, Place, Waits, answer_of, devices, devices_at, looks, reach_at, AfterStep, AfterStride, IsLastResult, StepWaits};
+ghost use Rattle.link_run.specs.Run.{Tool, Devices, DevicesInRun, WaitLog, answer_of, devices, devices_at, looks, reach_at, AfterStep, AfterStride, IsLastResult, StepWaitsAtMostOnce};
 ghost use Rattle.link_run.specs.WholeRun.{AfterRunFrom, IsLogOf, devices_of, ran_of};
 ghost use Rattle.link_run.specs.declared.run.Progress.{Progress};
 
@@ -119,22 +119,23 @@ pub trait Run<R: InDevice, W: OutDevice, E: OutDevice>: Sized {
     ghost tool: { Self → Tool };
 
     // its source, its output and its report
-    ghost place: { Self → Place R W E };
+    ghost place: { Self → DevicesInRun R W E };
 
     // Since its devices were in this state, the run was given exactly these bytes, and has written
     // exactly what they determine.
     ghost stands: { Self → Devices R W E → List ℕ → Type 0 };
 
-    // The next step is given at most this many bytes: 0 if it reads nothing.
+    // The bound of the next step: it is given at most this many bytes. If the bound is 0, the step
+    // is given none.
     ghost most: { Self → ℕ };
 
     // with which devices it was made, and when it had to wait for its input
-    ghost waits: { Self → Waits R W E };
+    ghost waits: { Self → WaitLog R W E };
 
     // the run has ended, and each further step returns this
     ghost has_ended: { Self → Result Progress IoFault → Type 0 };
 
-    /// Reads the next bytes of the input, and writes what the bytes given determine.
+    /// Reads the next bytes of the input, and writes what the given bytes determine.
     ///
     /// Before a read that may have to wait, it hands on what was written. So a reader of the output
     /// and the report sees the texts that the bytes so far determine. After the end or a failure,
@@ -149,8 +150,9 @@ pub trait Run<R: InDevice, W: OutDevice, E: OutDevice>: Sized {
             → AfterStep (looks R.state W.state E.state) (tool self.old) start (place self.old)
             (place self.new) (stands self.new start) (most self.old) history result }
         ensures waits { (start : Devices R W E) (history : List ℕ) → stands self.old start history
-            → StepWaits (looks R.state W.state E.state) (tool self.old) start history
+            → StepWaitsAtMostOnce (looks R.state W.state E.state) (tool self.old) start history
             (place self.old) (place self.new) (waits self.old) (waits self.new) }
+        // If the bound of the next step is 0, this step was the last.
         ensures goes_on { most self.new ≡ 0 → IsLastResult result }
         ensures ends { IsLastResult result → has_ended self.new result }
         ensures again { (answer : _) → has_ended self.old answer
@@ -158,9 +160,9 @@ pub trait Run<R: InDevice, W: OutDevice, E: OutDevice>: Sized {
 
     /// Does at least one step, and as many more as the bytes at hand allow: a *stride*.
     ///
-    /// After it, the texts are those that the bytes given determine, as after a step. It waits as
-    /// [`Run::step`] does: at most once, before it is given a byte and before it writes. It is
-    /// given at most the bytes of a step, and those that were at hand when that wait had ended.
+    /// After it, the texts are those that the given bytes determine, as after a step. A stride
+    /// waits at most once, before it is given a byte and before it writes. It is given at most the
+    /// bytes that were at hand when the wait had ended, and as many more as one step may be given.
     ///
     /// # Errors
     ///
@@ -171,8 +173,9 @@ pub trait Run<R: InDevice, W: OutDevice, E: OutDevice>: Sized {
             → AfterStride (looks R.state W.state E.state) (tool self.old) start (place self.old)
             (place self.new) (stands self.new start) (most self.old) history result }
         ensures waits { (start : Devices R W E) (history : List ℕ) → stands self.old start history
-            → StepWaits (looks R.state W.state E.state) (tool self.old) start history
+            → StepWaitsAtMostOnce (looks R.state W.state E.state) (tool self.old) start history
             (place self.old) (place self.new) (waits self.old) (waits self.new) }
+        // If the bound of the next step is 0, this stride was the last.
         ensures goes_on { most self.new ≡ 0 → IsLastResult result }
         ensures ends { IsLastResult result → has_ended self.new result }
         ensures again { (answer : _) → has_ended self.old answer

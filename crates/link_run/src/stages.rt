@@ -4,8 +4,8 @@ ghost use Rattle.std.specs.Prelude.{◌≡◌, ◌<◌, ℕ, Bool, false, List, 
 ghost use Rattle.link_wire.specs.declared.IoFault.{IoFault};
 ghost use Rattle.link_run.specs.Run.{Devices, looks, IsLastResult};
 ghost use Rattle.link_run.specs.Made.{Made, tool_of};
-ghost use Rattle.link_run.specs.Reading.{feed_of, waits_of, CallWaits};
-ghost use Rattle.link_run.specs.Stages.{IsRunAt, AfterStage, AfterStageStride, IsMore, RunHasEnded};
+ghost use Rattle.link_run.specs.Reading.{feed_of, waits_of, CallWaitsAtMostOnce};
+ghost use Rattle.link_run.specs.Stages.{IsRunAt, AfterStage, AfterStageStride, IsNotLastResult, IsEndedRunWith};
 ghost use Rattle.link_run.specs.Writers.{place_of};
 
 use crate::input::{Feed, Input};
@@ -31,7 +31,8 @@ pub trait Stages<S: Feed, W: OutDevice, E: OutDevice>: Sized {
     /// The input has given exactly these bytes, and the tool's fields have what follows from them.
     ghost knows: { Self → S → List ℕ → Type 0 };
 
-    /// The next step is given at most this many bytes.
+    /// The bound of the next step: it is given at most this many bytes. If the bound is 0, the step
+    /// is given none.
     ghost most: { Self → ℕ };
 
     /// Does the next step.
@@ -42,7 +43,7 @@ pub trait Stages<S: Feed, W: OutDevice, E: OutDevice>: Sized {
     ) -> Result<Progress, IoFault>
         requires { IsTrue (fits self.old (feed_of input.old)) }
         ensures made { made self.new ≡ made self.old }
-        ensures fits { IsMore result → IsTrue (fits self.new (feed_of input.new)) }
+        ensures fits { IsNotLastResult result → IsTrue (fits self.new (feed_of input.new)) }
         ensures gives { (start : Devices S.Reader W E) (history : List ℕ)
             → IsRunAt (looks S.Reader.state W.state E.state) (made self.old) start
             (begun self.old) (place_of (S.source (feed_of input.old)) writers.old) history
@@ -51,10 +52,12 @@ pub trait Stages<S: Feed, W: OutDevice, E: OutDevice>: Sized {
             (begun self.new) (place_of (S.source (feed_of input.old)) writers.old)
             (place_of (S.source (feed_of input.new)) writers.new)
             (knows self.new (feed_of input.new)) (most self.old) history result }
+        // If the bound of the next step is 0, this step was the last.
         ensures goes_on { most self.new ≡ 0 → IsLastResult result }
         ensures waits { (history : List ℕ) → knows self.old (feed_of input.old) history
-            → CallWaits (looks S.Reader.state W.state E.state) S.source
+            → CallWaitsAtMostOnce (looks S.Reader.state W.state E.state) S.source
             input.old input.new writers.old }
+        // A tool that has not begun to write does not wait.
         ensures begins { begun self.old ≡ false → waits_of input.new ≡ waits_of input.old };
 
     /// Does at least one step, and as many more as the bytes at hand allow.
@@ -68,7 +71,7 @@ pub trait Stages<S: Feed, W: OutDevice, E: OutDevice>: Sized {
     ) -> Result<Progress, IoFault>
         requires { IsTrue (fits self.old (feed_of input.old)) }
         ensures made { made self.new ≡ made self.old }
-        ensures fits { IsMore result → IsTrue (fits self.new (feed_of input.new)) }
+        ensures fits { IsNotLastResult result → IsTrue (fits self.new (feed_of input.new)) }
         ensures gives { (start : Devices S.Reader W E) (history : List ℕ)
             → IsRunAt (looks S.Reader.state W.state E.state) (made self.old) start
             (begun self.old) (place_of (S.source (feed_of input.old)) writers.old) history
@@ -77,10 +80,12 @@ pub trait Stages<S: Feed, W: OutDevice, E: OutDevice>: Sized {
             (begun self.new) (place_of (S.source (feed_of input.old)) writers.old)
             (place_of (S.source (feed_of input.new)) writers.new)
             (knows self.new (feed_of input.new)) (most self.old) history result }
+        // If the bound of the next step is 0, this stride was the last.
         ensures goes_on { most self.new ≡ 0 → IsLastResult result }
         ensures waits { (history : List ℕ) → knows self.old (feed_of input.old) history
-            → CallWaits (looks S.Reader.state W.state E.state) S.source
+            → CallWaitsAtMostOnce (looks S.Reader.state W.state E.state) S.source
             input.old input.new writers.old }
+        // A tool that has not begun to write does not wait.
         ensures begins { begun self.old ≡ false → waits_of input.new ≡ waits_of input.old }
     {
         self.stage(input, writers)
@@ -100,14 +105,14 @@ pub struct ToolRun<S: Feed, W: OutDevice, E: OutDevice, T: Stages<S, W, E>> {
 impl<S: Feed, W: OutDevice, E: OutDevice, T: Stages<S, W, E> + Drop> ToolRun<S, W, E, T> {
     ghost use Rattle.link_wire.specs.Source.{is_fresh, reader_of};
     ghost use Rattle.link_run.specs.Run.{NoneFailed, devices};
-    ghost use Rattle.link_run.specs.Stages.{HasEmptyStart};
+    ghost use Rattle.link_run.specs.Stages.{HasEmptyStartLastingFaults};
     ghost use Rattle.link_run.specs.NewRun.{IsNewRun};
 
     /// Makes a run that has read and written nothing.
     pub fn new(tool: T, feed: S, output: W, report: E) -> ToolRun<S, W, E, T>
         requires fits { IsTrue (T.fits tool feed) }
         requires knows { T.knows tool feed [] }
-        requires begins { HasEmptyStart (T.made tool) (T.begun tool) }
+        requires begins { HasEmptyStartLastingFaults (T.made tool) (T.begun tool) }
         requires fresh { IsTrue (is_fresh (S.source feed)) }
         requires sound { NoneFailed (looks S.Reader.state W.state E.state)
             (devices (reader_of (S.source feed)) output report) }
@@ -159,7 +164,7 @@ impl<S: Feed, W: OutDevice, E: OutDevice, T: Stages<S, W, E> + Drop> Run<S::Read
 
     ghost waits = { λ run. waits_by (λ feed. reader_of (S.source feed)) (waits_of run.input) };
 
-    ghost has_ended = { λ run. RunHasEnded run.answer };
+    ghost has_ended = { λ run. IsEndedRunWith run.answer };
 
     #[inline(always)]
     fn step(&mut self) -> Result<Progress, IoFault> {
@@ -181,7 +186,8 @@ impl<S: Feed, W: OutDevice, E: OutDevice, T: Stages<S, W, E> + Drop> Run<S::Read
         progress
     }
 
-    /// Takes the run apart. The stage of the tool and the line are dropped.
+    /// Takes the run apart. The result gets the argument `answer`. The field `answer` and the tool
+    /// are dropped.
     fn into_end(self, answer: Result<Status, IoFault>) -> RunEnd<S::Reader, W, E> {
         let ToolRun {
             input,
@@ -203,12 +209,13 @@ impl<S: Feed, W: OutDevice, E: OutDevice, T: Stages<S, W, E> + Drop> Run<S::Read
     }
 }
 
-/// Keeps the answer of a run in `answer`, if the step that returned `progress` was its last.
+/// If the step that returned `progress` was the last of its run, keeps the answer of the run in
+/// `answer`. If not, does nothing.
 #[inline(always)]
 fn keep(answer: &mut Option<Result<Status, IoFault>>, progress: Result<Progress, IoFault>)
-    ensures more { IsMore progress → answer.new ≡ answer.old }
-    ensures going { answer.new ≡ None → IsMore progress }
-    ensures ends { IsLastResult progress → RunHasEnded answer.new progress }
+    ensures more { IsNotLastResult progress → answer.new ≡ answer.old }
+    ensures going { answer.new ≡ None → IsNotLastResult progress }
+    ensures ends { IsLastResult progress → IsEndedRunWith answer.new progress }
 {
     match progress {
         Ok(Progress::More) => {}

@@ -14,12 +14,12 @@ pub struct Writers<W, E> {
     pub report: E,
     /// The line that is written next.
     pub line: Line,
-    /// The memory in which a text is made, if the output has no room of its own for it.
+    /// The memory in which a text is made, if its device has no room of its own for it.
     page: [u8; TEXT_MAX],
 }
 
 impl<W: OutDevice, E: OutDevice> Writers<W, E> {
-    ghost use Rattle.link_run.specs.Writers.{AfterWrite, AfterLastWrite, AfterEnd, AfterSettle, next_line, on_output, on_report};
+    ghost use Rattle.link_run.specs.Writers.{AfterWrite, AfterLastWrite, AfterStop, AfterSettle, next_line, on_output, on_report};
 
     /// Makes the writers of a run, with an empty line.
     pub(crate) fn new(output: W, report: E) -> Writers<W, E>
@@ -130,7 +130,8 @@ impl<W: OutDevice, E: OutDevice> Writers<W, E> {
         Ok(())
     }
 
-    /// Writes the line of a fault to the report, and returns [`Status::FAULT`].
+    /// Puts the text of a fault into the line, writes the line to the report, and returns
+    /// [`Status::FAULT`], which is 3.
     #[cold]
     pub fn report_fault(&mut self, fault: &Fault) -> Result<Status, IoFault>
         ensures gives { AfterLastWrite W.state E.state self.old self.new
@@ -144,11 +145,11 @@ impl<W: OutDevice, E: OutDevice> Writers<W, E> {
         Ok(Status::FAULT)
     }
 
-    /// Ends a run whose session has stopped. The report gets a line for a fault of the wire. Any
-    /// other failure is returned as it is, without a line.
+    /// Ends a run whose session has stopped. For a fault of the wire, writes its line to the
+    /// report. Any other stop is returned as an error, without a line.
     #[cold]
     pub fn end(&mut self, stop: Stop) -> Result<Status, IoFault>
-        ensures { AfterEnd W.state E.state stop self.old self.new result }
+        ensures { AfterStop W.state E.state stop self.old self.new result }
     {
         match stop {
             Stop::Wire(offset, fault) => self.report_fault(&Fault::Wire(offset, fault)),

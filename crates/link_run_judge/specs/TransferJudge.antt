@@ -6,11 +6,11 @@ use Rattle.link_wire.specs.declared.message.SegmentHead.{SegmentHead}
 use Rattle.link_run_judge.specs.Transfers.{Transfer}
 use Rattle.link_run_judge.specs.declared.judge.TransferJudge.{TransferJudge}
 
--- a transfer before any of its data has come
+-- A transfer before any of its data has come. `closed` is whether it is closed already.
 abbrev pub begun : SegmentHead → Bool → Transfer
 begun head closed = record { first = head; content = []; closed = closed }
 
--- a transfer with more data
+-- A transfer with more data. `closed` is whether it is closed after this data.
 abbrev pub grown : Transfer → List ℕ → Bool → Transfer
 grown transfer content closed =
     record { first = transfer.first; content = transfer.content ++ content; closed = closed }

@@ -41,9 +41,9 @@ parts_of wanted (latest ∷ earlier) = parts_of wanted earlier ++ part_of wanted
 
 -- ---- the report
 
--- The judgement on a transfer, which stands in its line. A transfer gets its line when it is closed
--- or abandoned, so one that is not closed was abandoned. A transfer that is left open at the end of
--- the stream counts as abandoned.
+-- The judgement in the line of a transfer. A transfer gets its line when it is closed or abandoned,
+-- so one that is not closed was abandoned. A transfer that is left open at the end of the stream
+-- counts as abandoned.
 abbrev pub judgement_of : Transfer → Judgement
 judgement_of transfer =
     judged_transfer (not transfer.closed) (announced_of transfer.first.items.items)
@@ -60,7 +60,8 @@ entry_of wanted transfer start = record {
   judgement = judgement_of transfer;
 }
 
--- the line of a transfer that comes after `earlier`
+-- The line of a transfer that comes after the transfers `earlier`. In the output, the bytes of this
+-- transfer begin where the bytes of `earlier` end.
 abbrev pub line_of : Wanted → Transfer → List Transfer → List ℕ
 line_of wanted transfer earlier =
     transfer_text (entry_of wanted transfer (length (parts_of wanted earlier)))
@@ -92,20 +93,22 @@ pub record Told : Type 0 where
 abbrev pub none_told : Told
 none_told = record { transfers = []; report = []; good = true }
 
--- the line of the latest transfer if it is due, and else no text
+-- The line of the latest transfer, if the line is due. If it is not, or there is no transfer, there
+-- is no text.
 abbrev pub line_due : Wanted → (due : Bool) → List Transfer → List ℕ
 line_due wanted false transfers = []
 line_due wanted true [] = []
 line_due wanted true (latest ∷ earlier) = line_of wanted latest earlier
 
--- whether the latest transfer is good; a transfer whose line is not due does not count
+-- Whether the latest transfer is good, if its line is due. If the line is not due, or there is no
+-- transfer, this is true.
 abbrev pub good_due : (due : Bool) → List Transfer → Bool
 good_due false transfers = true
 good_due true [] = true
 good_due true (latest ∷ earlier) = is_good (judgement_of latest)
 
--- If the line of the latest transfer is due, it is written, and not all is good if that transfer is
--- not. Else nothing changes.
+-- If the line of the latest transfer is due, it is written. If that transfer is not good then, not
+-- all is good. If the line is not due, nothing changes.
 abbrev pub with_line : Wanted → (due : Bool) → Told → Told
 with_line wanted due told = record {
   transfers = told.transfers;
@@ -113,8 +116,8 @@ with_line wanted due told = record {
   good = told.good && good_due due told.transfers;
 }
 
--- A segment begins a transfer or continues the latest; its data comes later. A stray segment does
--- neither.
+-- The transfers after the head of a message. A segment begins a transfer or continues the latest.
+-- No data is added, since it comes later. A stray segment, whose turn is `None`, changes nothing.
 abbrev pub transfers_at : Option Turn → List Transfer → Message → List Transfer
 transfers_at None transfers message = transfers
 transfers_at (Some turn) transfers message = after_message transfers message []
@@ -159,7 +162,8 @@ told_after wanted events = fold (told_event wanted) none_told events
 
 -- ---- a stream
 
--- what `unpack` says of a stream
+-- What `unpack` says of a stream. It goes on after a fault of the order only with `keep_going`. It
+-- is told of a head only if this is out of order, or begins or ends a transfer.
 abbrev pub unpack_telling : Wanted → Telling
 unpack_telling wanted = record {
   manner = record { goes_on = wanted.keep_going; all_heads = false };

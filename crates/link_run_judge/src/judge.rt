@@ -35,10 +35,10 @@ pub fn is_bundle(judgement: &JudgementView<'_>) -> bool
 
 impl TransferJudge {
     ghost use Rattle.link_wire.specs.Codes.{is_start};
-    ghost use Rattle.link_wire.specs.MessageBuffer.{SegmentTotalsFit, message_of};
+    ghost use Rattle.link_wire.specs.MessageBuffer.{IfSegmentItemsHaveTotals, message_of};
     ghost use Rattle.link_wire.specs.declared.message.Message.{Message};
     ghost use Rattle.link_wire.specs.declared.message.SegmentHead.{SegmentHead};
-    ghost use Rattle.link_report.specs.Judgement.{IsShortJudgement};
+    ghost use Rattle.link_report.specs.Judgement.{HasOnlyShortNames};
     ghost use Rattle.link_run_judge.specs.Transfers.{Transfer};
     ghost use Rattle.link_run_judge.specs.TransferJudge.{IsTransferJudgeAt, begun, grown};
     ghost use Rattle.link_run_judge.specs.Unpacking.{is_selected, judgement_of};
@@ -60,7 +60,7 @@ impl TransferJudge {
     ///
     /// The contract holds for any `closed`: a judge does not keep whether its transfer is closed.
     pub fn begin(&mut self, message: &MessageBuffer)
-        requires { SegmentTotalsFit message.now }
+        requires { IfSegmentItemsHaveTotals message.now }
         ensures follows { (head : SegmentHead) (closed : _) → message_of message.now
             ≡ Message.Segment head → is_start head.flags ≡ true
             → IsTransferJudgeAt self.new (begun head closed) }
@@ -74,7 +74,8 @@ impl TransferJudge {
         }
     }
 
-    /// Judges the next piece of the transfer's data. The contract holds for any `closed`.
+    /// Judges the next piece of the transfer's data. The contract holds for any `closed`, as in
+    /// [`TransferJudge::begin`].
     #[inline(always)]
     pub fn take(&mut self, piece: &[u8])
         requires { self.old.size + length piece.now < 2 ^ 63 }
@@ -87,7 +88,7 @@ impl TransferJudge {
         self.scan.judge_piece(piece);
     }
 
-    /// Whether the transfer is selected. All transfers are, if no ID is given.
+    /// Whether `only` selects the transfer. `None` selects every transfer.
     #[inline(always)]
     pub fn is_selected(&self, only: Option<u64>) -> bool
         ensures { result ≡ is_selected only self.now.id }
@@ -105,8 +106,8 @@ impl TransferJudge {
         ensures judged { (transfer : Transfer) → IsTransferJudgeAt self.now transfer
             → abandoned ≡ not transfer.closed
             → viewed_judgement result ≡ judgement_of transfer }
-        // This holds whatever was judged, since there is no room for longer names.
-        ensures short { IsShortJudgement (viewed_judgement result) }
+        // The names of a good bundle's endpoints are short. The scan has no room for longer ones.
+        ensures short { HasOnlyShortNames (viewed_judgement result) }
     {
         judge_view(abandoned, self.announced, self.size, self.scan.view())
     }

@@ -31,7 +31,7 @@ pub fn tell_order<W: OutDevice, E: OutDevice>(
     }
 }
 
-/// Writes the line of a fault to the report.
+/// Writes the line of a fault to the report. The run goes on, so the status is dropped.
 #[cold]
 #[inline(never)]
 fn report_order<W: OutDevice, E: OutDevice>(

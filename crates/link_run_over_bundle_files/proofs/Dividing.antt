@@ -11,7 +11,7 @@ use Rattle.link_bundle_types.specs.declared.fault.State.TheVariants as state
 use Rattle.link_bundle_types.specs.declared.info.BundleInfo.{BundleInfo}
 use Rattle.link_bundle_blocks.specs.Bundle.{opening_at, bundle_at, judged_bundle, verdict, state_of, is_going, bundle_goes, blocks_in}
 use Rattle.link_bundle_blocks.proofs.Showing.{BlocksGrow-holds}
-use Rattle.link_run_over_bundle_files.specs.Bundles.{Packed, Refusal, Longer, Faulty, Divided, IsUnfinishedBundle, bundle_prefix, refused_by, judged_front, with_bundle, divided_by, divided_in, divided}
+use Rattle.link_run_over_bundle_files.specs.Bundles.{BundleWithInfo, Refusal, Longer, Faulty, Divided, IsUnfinishedBundle, bundle_prefix, refused_by, judged_front, with_bundle, divided_by, divided_in, divided}
 use Rattle.link_bundle.specs.{Left.stage_last, Scan.{HasScanned, ending}, Stages.stage_state}
 use Rattle.link_bundle.specs.declared.{draft.Draft.Draft, scan.BundleScan.BundleScan}
 use Rattle.link_bundle.specs.declared.stage.ScanStage.{ScanStage}
@@ -19,7 +19,7 @@ use Rattle.link_bundle.specs.declared.stage.ScanStage.TheVariants as stage
 use Rattle.link_bundle.proofs.Verdicts.{state_of-seen}
 use Rattle.link_bundle_data_in_pieces.proofs.Judged.{joined_rest}
 use Rattle.link_report.specs.declared.fault.Fault.TheVariants.{TooLong}
-use Rattle.link_run_over_bundle_files.specs.{BundleRun.{AddsSeen, RefusedBundle, AfterJudge, HasScannedPart, found_by}, Telling.HasNoEarlierBlockEnd}
+use Rattle.link_run_over_bundle_files.specs.{BundleRun.{AddsToSeenCount, RefusedBundle, AfterJudge, HasScannedFromPiece, found_by}, Telling.HasNoEarlierBlockEnd}
 use Rattle.link_run_over_bundle_files.specs.declared.current.{Current.Current, Found.Found}
 use Rattle.link_run_over_bundle_files.specs.declared.current.Found.TheVariants as found
 
@@ -144,9 +144,12 @@ enough_turns (suc count) (suc other) limit (byte ∷ bytes) p q =
     (omega arith))
 
 -- these bundles, and then bytes that do not begin with a bundle that the peer takes
-abbrev pub refused_so : List Packed → (accepted : List ℕ) → Refusal → Divided
-refused_so bundles accepted refusal =
-    record { bundles = bundles; rest = Some (record { accepted = accepted; refusal = refusal }) }
+abbrev pub refused_so : List BundleWithInfo → (before_fault : List ℕ) → Refusal → Divided
+refused_so bundles before_fault refusal =
+    record {
+      bundles = bundles;
+      rest = Some (record { before_fault = before_fault; refusal = refusal });
+    }
 
 pub divided_none : (limit : ℕ) → divided limit [] ≡ record { bundles = []; rest = None }
 unfolding divided divided_in
@@ -261,7 +264,7 @@ pub fed : (by_blocks : Bool) (scan : BundleScan) (begun piece : List ℕ) (count
     → by_blocks ≡ false → bundle_goes begun ≡ true → 0 < length piece
     → count ≡ length (taken bundle_goes begun piece)
     → HasScanned scan (begun ++ taken bundle_goes begun piece)
-    → HasScannedPart by_blocks scan begun piece count
+    → HasScannedFromPiece by_blocks scan begun piece count
 fed by_blocks scan begun piece count not_blocks goes some counted scanned =
     let run = taken bundle_goes begun piece in
     let shortest = (takes_shortest bundle_goes begun piece run).1 refl in
@@ -348,7 +351,7 @@ module _ (limit : ℕ) (by_blocks : Bool) (current : Current) (begun run : List 
 -- what a scan has taken of the first `size` bytes of a piece
 pub judged : (limit : ℕ) (by_blocks : Bool) (current : Current) (begun piece : List ℕ)
     (size count : ℕ) (found : Found) → count ≤ length (take size piece)
-    → HasScannedPart by_blocks current.scan begun (take size piece) count
+    → HasScannedFromPiece by_blocks current.scan begun (take size piece) count
     → bundle_prefix begun ≡ begun → length begun + size ≤ limit
     → ((seen : List ℕ) → HasScanned current.scan seen
     → found ≡ found_by current.number (state_of (verdict seen)))
@@ -380,7 +383,7 @@ judged limit by_blocks current begun piece size count found fits scans kept with
 
 -- the number of bytes that a scan has seen
 pub counted : (before count after : ℕ) (found : Found) → before + count ≡ after → after < 2 ^ 63
-    → AddsSeen before count after found
+    → AddsToSeenCount before count after found
 counted before count after found.Part same less = (same, less)
 counted before count after found.Whole same less = (same, less)
 counted before count after (found.Refused fault) same less = omega (arith, same)

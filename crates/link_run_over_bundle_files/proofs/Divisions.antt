@@ -6,18 +6,18 @@ use Rattle.link_bundle_types.specs.{Faults.lasts, declared.fault.BundleFault.Bun
 use Rattle.link_bundle_types.specs.declared.info.BundleInfo.{BundleInfo}
 use Rattle.link_bundle_types.specs.declared.fault.State.TheVariants as state
 use Rattle.link_bundle_blocks.specs.Bundle.{verdict, is_going, bundle_goes}
-use Rattle.link_run_over_bundle_files.specs.Bundles.{Packed, Refusal, Longer, Faulty, IsUnfinishedBundle, bundle_prefix, divided, with_bundles}
+use Rattle.link_run_over_bundle_files.specs.Bundles.{BundleWithInfo, Refusal, Longer, Faulty, IsUnfinishedBundle, bundle_prefix, divided, with_bundles}
 use Rattle.link_run_over_bundle_files.proofs.Dividing.{prefix_again, none_open, some_stopped, refused_so, divided_whole, divided_longer, divided_faulty}
 
 -- the bytes show why they begin with no bundle that the peer takes
 pub record IsRefused (limit : ℕ) (bytes : List ℕ) : Type 0 where
-  pub accepted : List ℕ
+  pub before_fault : List ℕ
   pub refusal : Refusal
-  pub divides : (more : List ℕ) → divided limit (bytes ++ more) ≡ refused_so [] accepted refusal
+  pub divides : (more : List ℕ) → divided limit (bytes ++ more) ≡ refused_so [] before_fault refusal
 
 -- some bundles, and then bytes that are refused or begin another bundle, whatever bytes follow
 pub record StaysDivided (limit : ℕ) (bytes : List ℕ) : Type 0 where
-  pub bundles : List Packed
+  pub bundles : List BundleWithInfo
   pub begun : List ℕ
   pub divides : (more : List ℕ)
       → divided limit (bytes ++ more) ≡ with_bundles bundles (divided limit (begun ++ more))
@@ -40,7 +40,7 @@ module _ (limit : ℕ) where
       → bundle_prefix front ≡ front → length front ≤ limit
       → StaysDivided limit rest → StaysDivided limit (front ++ rest)
   judged_so front rest (Ok info) is stops all within later =
-      let first : Packed = record { bytes = front; info = info } in
+      let first : BundleWithInfo = record { bytes = front; info = info } in
       record {
         bundles = first ∷ later.bundles;
         begun = later.begun;
@@ -54,7 +54,7 @@ module _ (limit : ℕ) where
   judged_so front rest (Err (fault, place)) is stops all within later =
       let stays = stopped_lasts (lasts fault) fault place (rw is at stops) in
       none_first (front ++ rest) (inl (record {
-        accepted = take (length front - 1) front;
+        before_fault = take (length front - 1) front;
         refusal = Faulty fault place;
         divides = λ more. rw append_assoc
             (divided_faulty limit front (rest ++ more) fault place all is stays within);
@@ -69,7 +69,7 @@ module _ (limit : ℕ) where
       let shortest = (takes_shortest bundle_goes [] bytes front).1 refl in
       ⊎_elim
       (λ beyond. none_first bytes (inl (record {
-        accepted = take limit front;
+        before_fault = take limit front;
         refusal = Longer limit;
         divides = λ more. divided_longer limit bytes more beyond;
       })))

@@ -16,8 +16,8 @@ use Rattle.link_run.specs.declared.writers.Writers.{Writers}
 use Rattle.link_run.proofs.Runs.{few_over, then_assoc, writes_then, part_of_more}
 use Rattle.link_run.proofs.Stands.{goes_on, loses, ends, last_step}
 use Rattle.link_bundle.specs.Scan.{HasScanned}
-use Rattle.link_run_over_bundle_files.specs.Bundles.{Packed, divided, with_bundles, size_of}
-use Rattle.link_run_over_bundle_files.specs.Telling.{SoFar, BundleTelling, WritesRest, told_of, with_run, with_bytes, between, RunViewComes, HasNoEarlierBlockEnd, IsAccepted, LastBytesCome}
+use Rattle.link_run_over_bundle_files.specs.Bundles.{BundleWithInfo, divided, with_bundles, size_of}
+use Rattle.link_run_over_bundle_files.specs.Telling.{SoFar, BundleTelling, WritesRestOfTexts, told_of, with_run, with_bytes, between, RunViewComes, HasNoEarlierBlockEnd, IsUnfinishedOrHasView, BytesBeforeFaultCome}
 use Rattle.link_run_over_bundle_files.specs.BundleRun.{before_last, AfterJudge, cut_at, IsBundleWalkAt, ended_by, WritesUpTo, WritesEnd, WritesFound, BytesCome, RefusedBundle}
 use Rattle.link_run_over_bundle_files.specs.declared.current.{Current.Current, Found.Found}
 use Rattle.link_run_over_bundle_files.specs.declared.current.Found.TheVariants as found
@@ -29,11 +29,11 @@ use Rattle.link_run.proofs.Sessions.{then_fault}
 use Rattle.link_run_over_bundle_files.specs.declared.consumer.RunView.{RunView}
 
 -- the number of bytes with one more bundle
-size_with : (bundles : List Packed) (bundle : Packed)
+size_with : (bundles : List BundleWithInfo) (bundle : BundleWithInfo)
     → size_of (bundles ++ bundle ∷ []) ≡ size_of bundles + length bundle.bytes
 unfolding size_of
 size_with bundles bundle =
-    fold-append (λ size (b : Packed). size + length b.bytes) 0 bundles (bundle ∷ [])
+    fold-append (λ size (b : BundleWithInfo). size + length b.bytes) 0 bundles (bundle ∷ [])
 
 pub no_size : size_of [] ≡ 0
 unfolding size_of
@@ -47,7 +47,7 @@ pub accepted : {limit : ℕ} {by_blocks : Bool} {current : Current} {before : So
     {run : List ℕ} → BytesCome limit current before place run → HasScanned current.scan (before.begun ++ run)
     → HasNoEarlierBlockEnd by_blocks current.scan before.begun run → (view : RunView)
     → view.number ≡ current.number → view.before ≡ place → view.bytes.now ≡ run
-    → view.scan.now ≡ current.scan → IsAccepted limit before.begun run view.whole
+    → view.scan.now ≡ current.scan → IsUnfinishedOrHasView limit before.begun run view.whole
     → RunViewComes limit by_blocks before view
 accepted {before = before} here scanned blocks view number placed bytes scan is = record {
   numbered = number ∙ here.numbered;
@@ -66,7 +66,7 @@ pub refused : {limit : ℕ} {by_blocks : Bool} {current : Current} {before : SoF
     {run : List ℕ} {why : Fault} (bytes : List ℕ) → bytes ≡ before_last run
     → BytesCome limit current before place run
     → RefusedBundle limit by_blocks current.number before.begun run why
-    → LastBytesCome limit by_blocks before current.number bytes
+    → BytesBeforeFaultCome limit by_blocks before current.number bytes
 refused {before = before} {run = run} bytes is here refuses =
     let some = here.some in
     let few = here.few in
@@ -123,7 +123,7 @@ module _ {W E : Type 0} (out_look : W → Output) (report_look : E → Output) w
   module _ (telling : BundleTelling) (before : SoFar) (run : List ℕ) (why : Fault)
       (bytes : List ℕ) (is : bytes ≡ before_last run) (old mid : Writers W E) where
     abbrev Said : Result (Unit {0}) IoFault → Type 0
-    Said result = WritesRest out_look report_look (telling.texts before)
+    Said result = WritesRestOfTexts out_look report_look (telling.texts before)
         (telling.texts (with_bytes before bytes)) (Unit {0}) old mid result
 
     abbrev Refused : Writers W E → Result Status IoFault → Type 0
@@ -162,7 +162,7 @@ module _ {W E : Type 0} (out_look : W → Output) (report_look : E → Output) w
       (old new : Writers W E) (status : Status)
       (is : status.0 ≡ (if telling.good now.bundles then 0 else 1)) where
     pub ended : (result : Result (Unit {0}) IoFault)
-        → WritesRest out_look report_look (telling.texts (between now.bundles))
+        → WritesRestOfTexts out_look report_look (telling.texts (between now.bundles))
         (telling.ended now.bundles) (Unit {0}) old new result
         → WritesEnd out_look report_look telling old new now now
         (cut_at telling.limit number now.begun) (result_and result (Ok status))
@@ -189,7 +189,7 @@ module _ {R W E : Type 0} {look : Looks R W E} {start : Devices R W E} {made : L
     (few : length (window_of new) < window_size) where
   pub stepped : {had now : Texts} {stands : Type 0} (knows : List ℕ → Type 0)
       (result : Result (Unit {0}) IoFault)
-      → WritesRest look.output look.report had now stands before after result
+      → WritesRestOfTexts look.output look.report had now stands before after result
       → written_by begun (made history) ≡ had
       → now ≡ (made (history ++ given)).texts
       → shows_fault (made (history ++ given)).stop ≡ false
@@ -297,7 +297,7 @@ module _ {R W E : Type 0} {look : Looks R W E} {start : Devices R W E} (telling 
     came by_blocks mid numbered found.Whole took gave =
         let few = at.few in
         let bundles = at.so_far.bundles in
-        let bundle : Packed = record { bytes = at.so_far.begun ++ run; info = gave.0 } in
+        let bundle : BundleWithInfo = record { bytes = at.so_far.begun ++ run; info = gave.0 } in
         went (with_run at.so_far run (Some gave.0))
         (λ rest. divided-append run rest
         ∙ rw (

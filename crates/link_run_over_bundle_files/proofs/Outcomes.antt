@@ -5,8 +5,8 @@ use Rattle.link_bundle_blocks.specs.Bundle.{verdict}
 use Rattle.link_bundle_types.specs.declared.fault.BundleFault.{BundleFault}
 use Rattle.link_bundle_types.specs.declared.info.BundleInfo.{BundleInfo}
 use Rattle.link_run.specs.{Made.{Made, HasLastingFaults, whole_by, shows_fault}, Run.Outcome}
-use Rattle.link_run.specs.Stages.{HasEmptyStart}
-use Rattle.link_run_over_bundle_files.specs.Bundles.{Packed, Rest, Divided, IsUnfinishedBundle, divided, with_bundles}
+use Rattle.link_run.specs.Stages.{HasEmptyStartLastingFaults}
+use Rattle.link_run_over_bundle_files.specs.Bundles.{BundleWithInfo, TailAfterBundles, Divided, IsUnfinishedBundle, divided, with_bundles}
 use Rattle.link_run_over_bundle_files.specs.Telling.{BundleTelling, SoFar, stop_by, accepted_in, told_by, told_of}
 use Rattle.link_run_over_bundle_files.specs.BundleRun.{fault_of, cut_at, ended_by}
 use Rattle.link_run_over_bundle_files.proofs.Dividing.{whole_stops, divided_none, divided_open}
@@ -14,7 +14,7 @@ use Rattle.link_run_over_bundle_files.proofs.Divisions.{stays_divided}
 
 -- the end of an input after the bytes `begun` of a bundle that goes on
 record EndsInBundle (limit : ℕ) (begun : List ℕ) : Type 0 where
-  pub rest : Option Rest
+  pub rest : Option TailAfterBundles
   pub divides : divided limit begun ≡ record { bundles = []; rest = rest }
   pub accepted : accepted_in rest ≡ begun
   pub unshown : (number : ℕ) → shows_fault (stop_by number rest) ≡ false
@@ -34,21 +34,21 @@ cut_open limit (byte ∷ bytes) opened =
     cut_by limit (byte ∷ bytes) (verdict (byte ∷ bytes)) refl opened (omega arith)
 
 -- some bundles, and then the bytes `begun` of the next one
-module _ (limit : ℕ) (history : List ℕ) (bundles : List Packed) (begun : List ℕ)
+module _ (limit : ℕ) (history : List ℕ) (bundles : List BundleWithInfo) (begun : List ℕ)
     (divides : (more : List ℕ) → divided limit (history ++ more)
     ≡ with_bundles bundles (divided limit (begun ++ more))) where
-  divided_at : (more : List ℕ) (rest : Option Rest)
+  divided_at : (more : List ℕ) (rest : Option TailAfterBundles)
       → divided limit (begun ++ more) ≡ record { bundles = []; rest = rest }
       → divided limit (history ++ more) ≡ record { bundles = bundles; rest = rest }
   divided_at more rest is = divides more ∙ rw (is, append-nil) refl
 
-  pub divided_now : (rest : Option Rest)
+  pub divided_now : (rest : Option TailAfterBundles)
       → divided limit begun ≡ record { bundles = []; rest = rest }
       → divided limit history ≡ record { bundles = bundles; rest = rest }
   divided_now rest is = rw append-nil at (divided_at [] rest (rw append-nil is))
 
   -- if more bytes do not change what follows the bundles, they change nothing
-  pub divided_same : (rest : Option Rest)
+  pub divided_same : (rest : Option TailAfterBundles)
       → ((more : List ℕ) → divided limit (begun ++ more) ≡ record { bundles = []; rest = rest })
       → (more : List ℕ) → divided limit (history ++ more) ≡ divided limit history
   divided_same rest all more =
@@ -58,7 +58,7 @@ module _ (limit : ℕ) (history : List ℕ) (bundles : List Packed) (begun : Lis
 abbrev pub whole_of : Made → Outcome
 whole_of made = whole_by made.stop made
 
-ended_rest : (telling : BundleTelling) (bundles : List Packed) (rest : Option Rest)
+ended_rest : (telling : BundleTelling) (bundles : List BundleWithInfo) (rest : Option TailAfterBundles)
     → whole_of (told_by telling (record { bundles = bundles; rest = rest }))
     ≡ ended_by telling (record { bundles = bundles; begun = accepted_in rest })
     (fault_of (stop_by (length bundles) rest))
@@ -78,7 +78,7 @@ module _ (telling : BundleTelling) where
   module _ (history : List ℕ) (now : SoFar)
       (divides : (more : List ℕ) → divided telling.limit (history ++ more)
       ≡ with_bundles now.bundles (divided telling.limit (now.begun ++ more))) where
-    told_now : (rest : Option Rest)
+    told_now : (rest : Option TailAfterBundles)
         → divided telling.limit now.begun ≡ record { bundles = []; rest = rest }
         → told_of telling history ≡ told_by telling (record { bundles = now.bundles; rest = rest })
     told_now rest is =
@@ -106,7 +106,7 @@ module _ (telling : BundleTelling) where
           (ended_rest telling now.bundles cut.rest ∙ rw cut.accepted refl)
 
     -- more bytes do not change what follows the bundles
-    module _ (rest : Option Rest) (all : (more : List ℕ)
+    module _ (rest : Option TailAfterBundles) (all : (more : List ℕ)
         → divided telling.limit (now.begun ++ more) ≡ record { bundles = []; rest = rest }) where
       pub told_refused : told_of telling history
           ≡ told_by telling (record { bundles = now.bundles; rest = rest })
@@ -129,5 +129,5 @@ module _ (telling : BundleTelling) where
       absurd (false≢true (sym (unshown_going bytes now parts.divides opened) ∙ shown)))
       parts.last
 
-  pub may_begin : HasEmptyStart (told_of telling) false
+  pub may_begin : HasEmptyStartLastingFaults (told_of telling) false
   may_begin = record { texts = refl; unshown = rw told_none refl; lasting = lasting_told }

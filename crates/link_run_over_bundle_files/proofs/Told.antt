@@ -11,7 +11,7 @@ use Rattle.link_run.specs.Run.{Texts, ◌then◌, no_texts}
 use Rattle.link_run.specs.Writers.{on_output}
 use Rattle.link_run.specs.declared.writers.Writers.{Writers}
 use Rattle.link_run.proofs.Runs.{then_assoc, then_none, output_then, part_of_more, writes_none}
-use Rattle.link_run_over_bundle_files.specs.{Blocks.HasReadData, Telling.WritesRest}
+use Rattle.link_run_over_bundle_files.specs.{Blocks.HasReadData, Telling.WritesRestOfTexts}
 
 -- ---- the data of a block
 
@@ -40,7 +40,7 @@ on_ok_by (Err fault) step holds = tt
 module _ {W E : Type 0} {out_look : W → Output} {report_look : E → Output} where
   -- all that is due was written before
   pub told_none : {P : Type 0} {had due : Texts} {writers : Writers W E} → had ≡ due → P
-      → WritesRest out_look report_look had due P writers writers (Ok tt)
+      → WritesRestOfTexts out_look report_look had due P writers writers (Ok tt)
   told_none {had = had} {writers = writers} same known = record {
     texts = no_texts;
     said = then_none had ∙ same;
@@ -50,9 +50,9 @@ module _ {W E : Type 0} {out_look : W → Output} {report_look : E → Output} w
 
   module _ {P : Type 0} {had due : Texts} {old new : Writers W E}
       {result : Result (Unit {0}) IoFault}
-      (told : WritesRest out_look report_look had due P old new result) where
+      (told : WritesRestOfTexts out_look report_look had due P old new result) where
     -- what holds then
-    pub told_known : {Q : Type 0} → (P → Q) → WritesRest out_look report_look had due Q old new result
+    pub told_known : {Q : Type 0} → (P → Q) → WritesRestOfTexts out_look report_look had due Q old new result
     told_known step = record {
       texts = told.texts;
       said = told.said;
@@ -62,7 +62,7 @@ module _ {W E : Type 0} {out_look : W → Output} {report_look : E → Output} w
 
     -- what was written comes after what was said before
     pub told_after : (front : Texts)
-        → WritesRest out_look report_look (front then had) (front then due) P old new result
+        → WritesRestOfTexts out_look report_look (front then had) (front then due) P old new result
     told_after front = record {
       texts = told.texts;
       said = sym (then_assoc front had told.texts)
@@ -75,9 +75,9 @@ module _ {W E : Type 0} {out_look : W → Output} {report_look : E → Output} {
     {old new : Writers W E} {had some : List ℕ} where
   -- texts were written, and then others, or a writer failed in these
   pub told_then : {mid : Writers W E} {due : List ℕ} {result : Result (Unit {0}) IoFault}
-      → WritesRest out_look report_look (on_output had) (on_output some) P old mid (Ok tt)
-      → WritesRest out_look report_look (on_output some) (on_output due) Q mid new result
-      → WritesRest out_look report_look (on_output had) (on_output due) Q old new result
+      → WritesRestOfTexts out_look report_look (on_output had) (on_output some) P old mid (Ok tt)
+      → WritesRestOfTexts out_look report_look (on_output some) (on_output due) Q mid new result
+      → WritesRestOfTexts out_look report_look (on_output had) (on_output due) Q old new result
   told_then {mid = mid} {result = result} first second =
       let only = only_output had some first.texts first.said in
       record {
@@ -91,8 +91,8 @@ module _ {W E : Type 0} {out_look : W → Output} {report_look : E → Output} {
 
   -- a writer failed before more texts were written
   pub told_part : {fault : IoFault} (more : List ℕ)
-      → WritesRest out_look report_look (on_output had) (on_output some) P old new (Err fault)
-      → WritesRest out_look report_look (on_output had) (on_output (some ++ more)) Q old new (Err fault)
+      → WritesRestOfTexts out_look report_look (on_output had) (on_output some) P old new (Err fault)
+      → WritesRestOfTexts out_look report_look (on_output had) (on_output (some ++ more)) Q old new (Err fault)
   told_part {fault = fault} more told = record {
     texts = told.texts then on_output more;
     said = then_assoc (on_output had) told.texts (on_output more)

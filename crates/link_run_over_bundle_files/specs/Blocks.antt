@@ -10,12 +10,12 @@ abbrev pub HasReadData : DataReader → (seen : List ℕ) → Block → Type 0
 HasReadData reader seen (PrimaryOf primary check end) = Unit {0}
 HasReadData reader seen (CanonicalOf block) = IsDataReaderIn reader seen block
 
--- the reader has read the bytes `seen` of a bundle, which end with this block
-pub record HasReadTo (reader : DataReader) (seen : List ℕ) (block : Block) : Type 0 where
+-- the reader has read the bytes `seen` of a bundle, which end with this block, and the block's data
+pub record HasReadToBlockEnd (reader : DataReader) (seen : List ℕ) (block : Block) : Type 0 where
   pub reading : IsDataReaderAt reader seen
   pub whole : HasReadData reader seen block
 
 -- what a tool writes for more bytes begins with what it writes for fewer
-pub record SaysMore (says : List ℕ → List ℕ) (before more : List ℕ) : Type 0 where
+pub record HasLastingText (says : List ℕ → List ℕ) (before more : List ℕ) : Type 0 where
   pub text : List ℕ
   pub is : says (before ++ more) ≡ says before ++ text

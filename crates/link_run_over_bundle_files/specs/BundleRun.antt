@@ -17,7 +17,7 @@ use Rattle.link_run.specs.Writers.{AfterLastWrite}
 use Rattle.link_run.specs.declared.run.{Progress.Progress, Status.Status}
 use Rattle.link_run.specs.declared.writers.Writers.{Writers}
 use Rattle.link_run_over_bundle_files.specs.Bundles.{Refusal, IsUnfinishedBundle, bundle_prefix, divided, with_bundles, size_of}
-use Rattle.link_run_over_bundle_files.specs.Telling.{SoFar, none_yet, BundleTelling, WritesRest, with_run, with_bytes, HasNoEarlierBlockEnd, refusal_fault, lasting, stop_by, IsViewOf}
+use Rattle.link_run_over_bundle_files.specs.Telling.{SoFar, none_yet, BundleTelling, WritesRestOfTexts, with_run, with_bytes, HasNoEarlierBlockEnd, refusal_fault, lasting, stop_by, IsViewOfWholeBundle}
 use Rattle.link_run_over_bundle_files.specs.declared.{consumer.WholeView.WholeView, current.Current.Current}
 use Rattle.link_run_over_bundle_files.specs.declared.current.Found.{Found}
 use Rattle.link_run_over_bundle_files.specs.declared.current.Found.TheVariants as found
@@ -32,17 +32,19 @@ pub record IsCurrentAt (limit : ℕ) (current : Current) (begun : List ℕ) : Ty
   pub scanned : HasScanned current.scan begun
   pub opened : IsUnfinishedBundle limit begun
 
--- The scan has taken the first `count` bytes of a piece after the bytes `begun`. Before each of
--- them, more bytes were needed.
-pub record HasScannedPart (by_blocks : Bool) (scan : BundleScan) (begun piece : List ℕ) (count : ℕ)
-    : Type 0 where
+-- The scan has taken the first `count` bytes of a piece, which follow the bytes `begun`. Before
+-- each of them, more bytes were needed. If `by_blocks` is true, no block ends before the last of
+-- them.
+pub record HasScannedFromPiece (by_blocks : Bool) (scan : BundleScan) (begun piece : List ℕ)
+    (count : ℕ) : Type 0 where
   pub some : 0 < count
   pub scanned : HasScanned scan (begun ++ take count piece)
   pub wanted : (fewer : ℕ) → fewer < count → bundle_goes (begun ++ take fewer piece) ≡ true
   pub blocks : HasNoEarlierBlockEnd by_blocks scan begun (take count piece)
 
 -- What holds when the bytes `run` of the current bundle are added to what has come. `place` is the
--- number of bytes of this bundle that came before them.
+-- number of bytes of this bundle that came before them. The numbers of bundles and of bytes stay
+-- below 2^63 (`few`, `sized`).
 pub record BytesCome (limit : ℕ) (current : Current) (before : SoFar) (place : ℕ) (run : List ℕ)
     : Type 0 where
   pub numbered : current.number ≡ length before.bundles
@@ -54,7 +56,8 @@ pub record BytesCome (limit : ℕ) (current : Current) (before : SoFar) (place :
 
 -- Exactly these bytes of the current bundle have come. They are a whole bundle, and no longer than
 -- the limit.
-pub record IsWholeBundle (limit : ℕ) (current : Current) (bundle : List ℕ) : Type 0 where
+pub record HasScannedAcceptableBundle (limit : ℕ) (current : Current) (bundle : List ℕ)
+    : Type 0 where
   pub scanned : HasScanned current.scan bundle
   pub front : bundle_prefix bundle ≡ bundle
   pub within : length bundle ≤ limit
@@ -66,7 +69,8 @@ abbrev pub before_last : (run : List ℕ) → List ℕ
 before_last run = take (length run - 1) run
 
 -- The bytes `begun` and then `run` are not the start of a bundle that is accepted, whatever
--- follows. The last byte shows this: before it, the bundle goes on.
+-- follows. The last byte shows this: before it, the bundle goes on. If `by_blocks` is true, no
+-- block ends in the bytes of `run` before the last one.
 pub record RefusedBundle (limit : ℕ) (by_blocks : Bool) (number : ℕ) (begun run : List ℕ)
     (fault : Fault)
     : Type 0 where
@@ -77,7 +81,7 @@ pub record RefusedBundle (limit : ℕ) (by_blocks : Bool) (number : ℕ) (begun 
       → divided limit ((begun ++ run) ++ more)
       ≡ record {
         bundles = [];
-        rest = Some (record { accepted = begun ++ before_last run; refusal = refusal });
+        rest = Some (record { before_fault = begun ++ before_last run; refusal = refusal });
       }
   pub before : (count : ℕ) → count < length run → IsUnfinishedBundle limit (begun ++ take count run)
   pub blocks : by_blocks ≡ true → blocks_in (begun ++ before_last run) ≡ blocks_in begun
@@ -93,17 +97,17 @@ abbrev pub AfterJudge : (limit : ℕ) → (by_blocks : Bool) → Current → (be
 AfterJudge limit by_blocks current begun run found.Part =
     IsCurrentAt limit current (begun ++ run) × HasNoEarlierBlockEnd by_blocks current.scan begun run
 AfterJudge limit by_blocks current begun run found.Whole =
-    IsWholeBundle limit current (begun ++ run)
+    HasScannedAcceptableBundle limit current (begun ++ run)
     × HasNoEarlierBlockEnd by_blocks current.scan begun run
 AfterJudge limit by_blocks current begun run (found.Refused fault) =
     RefusedBundle limit by_blocks current.number begun run fault
 
--- The scan had seen `before` bytes of the bundle, and then `count` more bytes came. `after` is how
--- many bytes it has seen now. If those bytes show a refusal, it may not have seen all of them: the
--- byte that is past the limit is not scanned.
-abbrev pub AddsSeen : (before count after : ℕ) → Found → Type 0
-AddsSeen before count after (found.Refused fault) = before ≤ after
-AddsSeen before count after _ = (before + count ≡ after) × (after < 2 ^ 63)
+-- The scan had seen `before` bytes of the bundle, and then `count` more bytes came. It has now seen
+-- `after` bytes. If the bytes show no refusal, it has seen all of them, and fewer than 2^63. If
+-- they show one, it has perhaps not seen all, since a byte past the limit is not scanned.
+abbrev pub AddsToSeenCount : (before count after : ℕ) → Found → Type 0
+AddsToSeenCount before count after (found.Refused fault) = before ≤ after
+AddsToSeenCount before count after _ = (before + count ≡ after) × (after < 2 ^ 63)
 
 -- what the state of the scan shows of the bundle
 abbrev pub found_by : (number : ℕ) → State → Found
@@ -112,9 +116,9 @@ found_by number state.Ended = found.Whole
 found_by number (state.Failed fault offset) = found.Refused (Bundle number offset fault)
 
 -- there is a view, and it is that of this whole bundle
-abbrev pub IsSomeViewOf : (bundle : List ℕ) → Option WholeView → Type 0
-IsSomeViewOf bundle None = ⊥
-IsSomeViewOf bundle (Some whole) = IsViewOf bundle whole
+abbrev pub HasViewOfWholeBundle : (bundle : List ℕ) → Option WholeView → Type 0
+HasViewOfWholeBundle bundle None = ⊥
+HasViewOfWholeBundle bundle (Some whole) = IsViewOfWholeBundle bundle whole
 
 -- The fault of an input that ends after the bytes `begun` of a bundle. It is `None` if there are no
 -- such bytes. `number` is the number of the bundle.
@@ -161,7 +165,9 @@ module _ {R : Type 0} (look : R → Seen) (telling : BundleTelling) (knows : SoF
     pub few : length so_far.bundles + length so_far.begun ≤ length history
     pub sized : size_of so_far.bundles + length so_far.begun ≤ length history
 
-  -- a run that has not begun was given nothing, and has read nothing
+  -- A run that has not begun was given nothing, and has read nothing. Its source has not failed
+  -- (`live`). The current bundle is the first one, no byte of it has come, and the tool knows this
+  -- (`holds`).
   pub record IsNewBundleWalk : Type 0 where
     pub nothing : history ≡ []
     pub unread : window_of source ≡ []
@@ -176,7 +182,8 @@ module _ {R : Type 0} (look : R → Seen) (telling : BundleTelling) (knows : SoF
 
 -- ---- what the parts of a step do
 
--- the texts and the status of an input that ends here, with this fault or without one
+-- The texts and the status of an input that ends here, with this fault or without one. With a
+-- fault, the status is 3. Otherwise it is 0 if all bundles are good, or else 1.
 abbrev pub ended_by : BundleTelling → SoFar → Option Fault → Outcome
 ended_by telling now None =
     record { texts = telling.ended now.bundles; status = if telling.good now.bundles then 0 else 1 }
@@ -190,13 +197,14 @@ module _ {W E : Type 0} (out_look : W → Output) (report_look : E → Output)
       (result : Result Progress IoFault) : Type 0 where
     pub written : Result (Unit {0}) IoFault
     pub is : result ≡ progress_after written
-    pub tells : WritesRest out_look report_look (telling.texts before) (telling.texts now)
+    pub tells : WritesRestOfTexts out_look report_look (telling.texts before) (telling.texts now)
         (knows now)
         old new written
     pub number : current.number ≡ length now.bundles
     pub reading : IsCurrentAt telling.limit current now.begun
 
-  -- the texts of an input with this end were written, or a writer failed while writing them
+  -- When `now` has come, the input stops at the fault `why`, or ends without one. The texts for
+  -- `before` were written already. The rest was written, or a writer failed while writing it.
   pub record WritesEnd (now : SoFar) (why : Option Fault) (answer : Result Status IoFault)
       : Type 0 where
     pub texts : Texts

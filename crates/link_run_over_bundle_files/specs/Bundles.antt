@@ -6,31 +6,32 @@ use Rattle.link_bundle_types.specs.declared.fault.BundleFault.{BundleFault}
 use Rattle.link_bundle_types.specs.declared.info.BundleInfo.{BundleInfo}
 use Rattle.link_bundle_blocks.specs.Bundle.{verdict, bundle_goes}
 
--- Why bytes do not begin with a bundle that is accepted: the bundle has more bytes than this limit,
--- which is the most that the peer receives, or it has this fault.
+-- Why bytes do not begin with a bundle that is accepted. Either the bundle has more bytes than this
+-- limit, which is the most that the peer receives, or it has this fault at this offset.
 pub data Refusal : Type 0 where
   Longer : (limit : ℕ) → Refusal
   Faulty : (fault : BundleFault) (offset : ℕ) → Refusal
 
 -- a whole bundle: its bytes, and what its blocks say about it
-pub record Packed : Type 0 where
+pub record BundleWithInfo : Type 0 where
   pub bytes : List ℕ
   pub info : BundleInfo
 
 -- the number of bytes of some bundles
-unfoldable pub size_of : List Packed → ℕ
-size_of bundles = sum_by (λ (bundle : Packed). length bundle.bytes) bundles
+unfoldable pub size_of : List BundleWithInfo → ℕ
+size_of bundles = sum_by (λ (bundle : BundleWithInfo). length bundle.bytes) bundles
 
--- The end of an input, if it is not a bundle that is accepted. `accepted` are the bytes before the
--- one that shows this, and `refusal` is the reason.
-pub record Rest : Type 0 where
-  pub accepted : List ℕ
+-- What follows the accepted bundles of an input. No accepted bundle begins there, and `refusal` is
+-- the reason. `before_fault` is the bytes before the byte that shows this. If the input ends inside
+-- a bundle, it is all bytes of that bundle.
+pub record TailAfterBundles : Type 0 where
+  pub before_fault : List ℕ
   pub refusal : Refusal
 
 -- The accepted bundles of an input, and what follows them. `rest` is `None` if nothing does.
 pub record Divided : Type 0 where
-  pub bundles : List Packed
-  pub rest : Option Rest
+  pub bundles : List BundleWithInfo
+  pub rest : Option TailAfterBundles
 
 -- The shortest prefix that is a bundle, or that shows that the bytes do not begin with one. If
 -- there is no such prefix, it is all bytes.
@@ -64,11 +65,11 @@ accepted_by (Faulty fault offset) front =
     if lasts fault then take (length front - 1) front else front
 
 -- this bundle, and then what `more` has
-abbrev pub with_bundle : Packed → Divided → Divided
+abbrev pub with_bundle : BundleWithInfo → Divided → Divided
 with_bundle bundle more = record { bundles = bundle ∷ more.bundles; rest = more.rest }
 
--- `bytes` begin with the bundle `front`: this bundle, and the bytes after it as `next` divides
--- them. Or `front` is refused, and the input ends there.
+-- How the input `bytes` is divided, if it begins with `front`. If `front` is accepted, it is the
+-- first bundle, and `next` divides the bytes after it. If `front` is refused, the input ends there.
 abbrev pub divided_by : (next : List ℕ → Divided) → (front bytes : List ℕ)
     → Result BundleInfo Refusal → Divided
 divided_by next front bytes (Ok info) =
@@ -76,7 +77,7 @@ divided_by next front bytes (Ok info) =
 divided_by next front bytes (Err refusal) =
     record {
       bundles = [];
-      rest = Some (record { accepted = accepted_by refusal front; refusal = refusal });
+      rest = Some (record { before_fault = accepted_by refusal front; refusal = refusal });
     }
 
 -- At most `count` bundles. If `count` is the number of bytes, the second case never occurs, since
@@ -93,9 +94,9 @@ unfoldable pub divided : (limit : ℕ) → List ℕ → Divided
 divided limit bytes = divided_in (length bytes) limit bytes
 
 -- these bundles, and then those of `more`
-abbrev pub with_bundles : List Packed → Divided → Divided
+abbrev pub with_bundles : List BundleWithInfo → Divided → Divided
 with_bundles bundles more = record { bundles = bundles ++ more.bundles; rest = more.rest }
 
--- The limit if a bundle may have any number of bytes: no input has as many as this.
+-- The limit of a tool for which a bundle may have any number of bytes. No input is so long.
 abbrev pub bundle_limit : ℕ
 bundle_limit = 2 ^ 64 - 1

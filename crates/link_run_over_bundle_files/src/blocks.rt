@@ -1,13 +1,13 @@
 //! The blocks of a bundle, as its bytes come.
 
 ghost use Rattle.std.specs.Prelude.{◌≡◌, ◌+◌, ◌^◌, ◌≤◌, ◌<◌, ◌++◌, ◌∷◌, [], true, List, ℕ, length};
-ghost use Rattle.link_bundle_blocks.specs.Blocks.{IsShortBlock, viewed_block};
+ghost use Rattle.link_bundle_blocks.specs.Blocks.{IfPrimaryHasShortEids, viewed_block};
 ghost use Rattle.link_bundle_blocks.specs.Bundle.{blocks_in, bundle_goes};
 ghost use Rattle.link_bundle.specs.Scan.{HasScanned, HasJudged, ending, scan_size};
 ghost use Rattle.link_bundle_data_in_pieces.specs.DataReader.{IsDataReaderAt, read_size};
 ghost use Rattle.link_run.specs.Writers.{on_output};
-ghost use Rattle.link_run_over_bundle_files.specs.Blocks.{HasReadTo, SaysMore};
-ghost use Rattle.link_run_over_bundle_files.specs.Telling.{WritesRest};
+ghost use Rattle.link_run_over_bundle_files.specs.Blocks.{HasReadToBlockEnd, HasLastingText};
+ghost use Rattle.link_run_over_bundle_files.specs.Telling.{WritesRestOfTexts};
 
 use link_bundle::{BlockView, BundleScan};
 use link_bundle_data_in_pieces::DataReader;
@@ -27,7 +27,7 @@ pub trait BlockConsumer {
     /// Writes what the tool says of a block of the bundle with this number.
     ///
     /// In the contract, the block ends with the bytes `run`, which follow the bytes `before` of the
-    /// bundle. `reader` has read its data.
+    /// bundle. `reader` has read the block's data.
     fn block<W: OutDevice, E: OutDevice>(
         &mut self,
         number: u64,
@@ -36,17 +36,17 @@ pub trait BlockConsumer {
         writers: &mut Writers<W, E>,
     ) -> Result<(), IoFault>
         requires read { read_size reader.now < 2 ^ 63 }
-        requires short { IsShortBlock (viewed_block block.now) }
+        requires short { IfPrimaryHasShortEids (viewed_block block.now) }
         ensures { (before run : List ℕ) → knows self.old before → bundle_goes before ≡ true
             → blocks_in (before ++ run) ≡ blocks_in before ++ viewed_block block.now ∷ []
             → length (before ++ run) < 2 ^ 63
-            → HasReadTo reader.now (before ++ run) (viewed_block block.now)
-            → WritesRest W.state E.state (on_output (says number before))
+            → HasReadToBlockEnd reader.now (before ++ run) (viewed_block block.now)
+            → WritesRestOfTexts W.state E.state (on_output (says number before))
             (on_output (says number (before ++ run))) (knows self.new (before ++ run))
             writers.old writers.new result };
 
     // more bytes add to what the tool says
-    ghost grows: { (number : ℕ) (before more : List ℕ) → SaysMore (says number) before more };
+    ghost grows: { (number : ℕ) (before more : List ℕ) → HasLastingText (says number) before more };
 
     // bytes with which no block ends change nothing
     ghost steady: { (number : ℕ) (consumer : Self) (before more : List ℕ)
@@ -59,7 +59,7 @@ pub trait BlockConsumer {
 /// block that ends with the run, if one does.
 ///
 /// No block ends earlier in the run. The scan has seen the run, which follows the first `before`
-/// bytes of the bundle. In the contract, `seen` are those bytes.
+/// bytes of the bundle. In the contract, `seen` is these first bytes.
 #[inline(always)]
 pub fn tell_run<C: BlockConsumer, W: OutDevice, E: OutDevice>(
     number: u64,
@@ -77,7 +77,7 @@ pub fn tell_run<C: BlockConsumer, W: OutDevice, E: OutDevice>(
         → HasScanned scan.now (seen ++ run.now)
         → blocks_in (seen ++ run.now) ≡ blocks_in seen ++ ending scan.now
         → IsDataReaderAt reader.old seen → C.knows consumer.old seen
-        → WritesRest W.state E.state (on_output (C.says number seen))
+        → WritesRestOfTexts W.state E.state (on_output (C.says number seen))
         (on_output (C.says number (seen ++ run.now)))
         (IsDataReaderAt reader.new (seen ++ run.now) × C.knows consumer.new (seen ++ run.now))
         writers.old writers.new result }
@@ -94,7 +94,8 @@ pub fn tell_run<C: BlockConsumer, W: OutDevice, E: OutDevice>(
 /// [`tell_run`] for a run that ends with a block.
 //
 // Not inlined: most pieces of a bundle in short segments end no block, and should not pay for it.
-// The block is looked up again, since a caller that hands it over makes room for it in each piece.
+// The block is looked up again here. If the caller handed it over, the caller would make room for
+// it in each piece.
 #[inline(never)]
 fn tell_ended<C: BlockConsumer, W: OutDevice, E: OutDevice>(
     number: u64,
@@ -113,13 +114,14 @@ fn tell_ended<C: BlockConsumer, W: OutDevice, E: OutDevice>(
         → HasScanned scan.now (seen ++ run.now)
         → blocks_in (seen ++ run.now) ≡ blocks_in seen ++ ending scan.now
         → IsDataReaderAt reader.old seen → C.knows consumer.old seen
-        → WritesRest W.state E.state (on_output (C.says number seen))
+        → WritesRestOfTexts W.state E.state (on_output (C.says number seen))
         (on_output (C.says number (seen ++ run.now)))
         (IsDataReaderAt reader.new (seen ++ run.now) × C.knows consumer.new (seen ++ run.now))
         writers.old writers.new result }
 {
     match scan.ended_block() {
-        // Each kind has a call of its own. For one call, the compiler would merge their fields.
+        // Each arm takes the block out and wraps it again, so that each kind has a call of its own.
+        // If both kinds shared a call, the compiler would merge their fields.
         Some(BlockView::Primary(block)) => {
             let block = BlockView::Primary(block);
             tell_block(number, before, run, &block, scan, reader, consumer, writers)
@@ -148,13 +150,13 @@ fn tell_block<C: BlockConsumer, W: OutDevice, E: OutDevice>(
     requires room { before + length run.now < 2 ^ 63 }
     requires read { read_size reader.old ≤ before }
     requires ended { ending scan.now ≡ viewed_block block.now ∷ [] }
-    requires short { IsShortBlock (viewed_block block.now) }
+    requires short { IfPrimaryHasShortEids (viewed_block block.now) }
     ensures read { read_size reader.new ≤ before + length run.now }
     ensures gives { (seen : List ℕ) → length seen ≡ before → bundle_goes seen ≡ true
         → HasScanned scan.now (seen ++ run.now)
         → blocks_in (seen ++ run.now) ≡ blocks_in seen ++ ending scan.now
         → IsDataReaderAt reader.old seen → C.knows consumer.old seen
-        → WritesRest W.state E.state (on_output (C.says number seen))
+        → WritesRestOfTexts W.state E.state (on_output (C.says number seen))
         (on_output (C.says number (seen ++ run.now)))
         (IsDataReaderAt reader.new (seen ++ run.now) × C.knows consumer.new (seen ++ run.now))
         writers.old writers.new result }
@@ -166,7 +168,8 @@ fn tell_block<C: BlockConsumer, W: OutDevice, E: OutDevice>(
 /// Scans the next piece of a bundle, and tells the consumer of each block that ends in it.
 ///
 /// The piece follows the first `before` bytes of the bundle, which are `seen` in the contract. If
-/// the scan needs no more bytes, no block ends in the piece.
+/// the scan needs no more bytes, no block ends in the piece. If bytes follow the whole bundle, the
+/// scan takes the first of them, which makes its verdict a fault.
 pub fn tell_piece<C: BlockConsumer, W: OutDevice, E: OutDevice>(
     number: u64,
     before: u64,
@@ -183,7 +186,7 @@ pub fn tell_piece<C: BlockConsumer, W: OutDevice, E: OutDevice>(
     ensures read { read_size reader.new ≤ before + length piece.now }
     ensures gives { (seen : List ℕ) → length seen ≡ before → HasJudged scan.old seen
         → IsDataReaderAt reader.old seen → C.knows consumer.old seen
-        → WritesRest W.state E.state (on_output (C.says number seen))
+        → WritesRestOfTexts W.state E.state (on_output (C.says number seen))
         (on_output (C.says number (seen ++ piece.now)))
         (HasJudged scan.new (seen ++ piece.now) × IsDataReaderAt reader.new (seen ++ piece.now)
         × C.knows consumer.new (seen ++ piece.now)) writers.old writers.new result }

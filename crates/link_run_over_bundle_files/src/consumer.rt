@@ -4,8 +4,8 @@ ghost use Rattle.std.specs.Prelude.{◌≡◌, ◌+◌, ◌^◌, ◌<◌, ◌≤
 ghost use Rattle.link_bundle_types.specs.BundleView.{viewed_info};
 ghost use Rattle.link_bundle_types.specs.ShortNames.{HasShortNames};
 ghost use Rattle.link_run.specs.Run.{no_texts};
-ghost use Rattle.link_run_over_bundle_files.specs.Bundles.{Packed};
-ghost use Rattle.link_run_over_bundle_files.specs.Telling.{BundleTelling, RunViewComes, SoFar, LastBytesCome, WritesRest, between, come_with, none_yet, size_after, with_bytes};
+ghost use Rattle.link_run_over_bundle_files.specs.Bundles.{BundleWithInfo};
+ghost use Rattle.link_run_over_bundle_files.specs.Telling.{BundleTelling, RunViewComes, SoFar, BytesBeforeFaultCome, WritesRestOfTexts, between, come_with, none_yet, size_after, with_bytes};
 
 use link_bundle::BundleScan;
 use link_bundle_types::BundleView;
@@ -86,7 +86,7 @@ pub trait BundleConsumer: Sized {
         ensures fits { OnOk result (IsTrue (fits self.new)) }
         ensures read { OnOk result (read self.new ≤ read self.old) }
         ensures gives { knows options.now self.old none_yet
-            → WritesRest W.state E.state no_texts ((telling options.now).texts none_yet)
+            → WritesRestOfTexts W.state E.state no_texts ((telling options.now).texts none_yet)
             (knows options.now self.new none_yet) writers.old writers.new result };
 
     /// Takes a run of accepted bytes, with which the bundle goes on or is whole. Writes what the
@@ -106,13 +106,16 @@ pub trait BundleConsumer: Sized {
         ensures read { OnOk result (read self.new ≤ size_after run.now) }
         ensures gives { (before : SoFar) → knows options.now self.old before
             → RunViewComes (telling options.now).limit tells_blocks before run.now
-            → WritesRest W.state E.state ((telling options.now).texts before)
+            → WritesRestOfTexts W.state E.state ((telling options.now).texts before)
             ((telling options.now).texts (come_with before run.now))
             (knows options.now self.new (come_with before run.now))
             writers.old writers.new result };
 
-    /// Takes the last accepted bytes of the bundle with this number, perhaps none: the byte after
-    /// them shows a fault. No block ends in them if the tool is told of each block by itself.
+    /// Takes the last accepted bytes of the bundle with this number, perhaps none. Writes what the
+    /// tool says of them.
+    ///
+    /// The byte after them shows a fault. If [`Self::by_blocks`] is true, no block ends in these
+    /// bytes.
     fn stop<W: OutDevice, E: OutDevice>(
         &mut self,
         options: &Self::Options,
@@ -123,8 +126,8 @@ pub trait BundleConsumer: Sized {
         requires fits { IsTrue (fits self.old) }
         requires few { length bytes.now ≤ wants self.old }
         ensures { (before : SoFar) → knows options.now self.old before
-            → LastBytesCome (telling options.now).limit tells_blocks before number bytes.now
-            → WritesRest W.state E.state ((telling options.now).texts before)
+            → BytesBeforeFaultCome (telling options.now).limit tells_blocks before number bytes.now
+            → WritesRestOfTexts W.state E.state ((telling options.now).texts before)
             ((telling options.now).texts (with_bytes before bytes.now)) (Unit {0})
             writers.old writers.new result };
 
@@ -134,12 +137,12 @@ pub trait BundleConsumer: Sized {
         options: &Self::Options,
         writers: &mut Writers<W, E>,
     ) -> Result<(), IoFault>
-        ensures { (bundles : List Packed) → knows options.now self.old (between bundles)
-            → WritesRest W.state E.state ((telling options.now).texts (between bundles))
+        ensures { (bundles : List BundleWithInfo) → knows options.now self.old (between bundles)
+            → WritesRestOfTexts W.state E.state ((telling options.now).texts (between bundles))
             ((telling options.now).ended bundles) (Unit {0}) writers.old writers.new result };
 
     /// Whether all bundles so far are good.
     fn is_good(&self, options: &Self::Options) -> bool
-        ensures { (bundles : List Packed) → knows options.now self.now (between bundles)
+        ensures { (bundles : List BundleWithInfo) → knows options.now self.now (between bundles)
             → result ≡ (telling options.now).good bundles };
 }

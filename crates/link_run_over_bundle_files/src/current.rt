@@ -36,7 +36,7 @@ impl Current {
     ghost use Rattle.link_bundle_types.specs.declared.info.BundleInfo.{BundleInfo};
     ghost use Rattle.link_bundle_types.specs.ShortNames.{HasShortNames};
     ghost use Rattle.link_run_over_bundle_files.specs.Bundles.{IsUnfinishedBundle};
-    ghost use Rattle.link_run_over_bundle_files.specs.BundleRun.{AddsSeen, IsCutFault, IsCurrentAt, AfterJudge, HasScannedPart, IsSomeViewOf, found_by};
+    ghost use Rattle.link_run_over_bundle_files.specs.BundleRun.{AddsToSeenCount, IsCutFault, IsCurrentAt, AfterJudge, HasScannedFromPiece, HasViewOfWholeBundle, found_by};
 
     /// Makes the state before the first byte of the first bundle.
     #[inline(always)]
@@ -59,9 +59,9 @@ impl Current {
 
     /// Scans the next bytes of a nonempty piece, and returns how many these are and what they show.
     ///
-    /// There are no more of these bytes than the limit leaves, and at most `wanted`. If the limit
-    /// leaves none, it is one byte, which shows that the bundle is too long. If `by_blocks` is
-    /// true, no block ends before the last of them.
+    /// It scans at most `wanted` bytes, and no more than the limit leaves. If the limit leaves
+    /// none, it scans nothing and returns 1, since the next byte shows that the bundle is too long.
+    /// If `by_blocks` is true, no block ends before the last of the scanned bytes.
     #[inline(always)]
     pub fn judge(
         &mut self,
@@ -74,7 +74,8 @@ impl Current {
         requires wanted { 0 < wanted }
         ensures within { result.0 ≤ length piece.now }
         ensures few { result.0 ≤ wanted }
-        ensures counts { AddsSeen (scan_size self.old.scan) result.0 (scan_size self.new.scan)
+        ensures counts { AddsToSeenCount (scan_size self.old.scan) result.0
+            (scan_size self.new.scan)
             result.1 }
         ensures some { (begun : List ℕ) → IsCurrentAt limit self.old begun
             → length begun + length piece.now < 2 ^ 63
@@ -104,7 +105,7 @@ impl Current {
         ensures number { self.new.number ≡ self.old.number }
         ensures scans { (begun : List ℕ) → HasScanned self.old.scan begun
             → bundle_goes begun ≡ true
-            → HasScannedPart by_blocks self.new.scan begun piece.now result }
+            → HasScannedFromPiece by_blocks self.new.scan begun piece.now result }
     {
         if !by_blocks {
             return self.scan.feed(piece);
@@ -143,7 +144,7 @@ impl Current {
     pub fn whole(&self) -> Option<WholeView<'_>>
         ensures short { IfSome result (λ whole. HasShortNames (viewed_info whole.info)) }
         ensures shows { (bundle : List ℕ) (info : BundleInfo) → HasScanned self.now.scan bundle
-            → verdict bundle ≡ Ok info → IsSomeViewOf bundle result }
+            → verdict bundle ≡ Ok info → HasViewOfWholeBundle bundle result }
     {
         match self.scan.view() {
             Ok(info) => Some(WholeView {
@@ -154,7 +155,7 @@ impl Current {
         }
     }
 
-    /// Begins the next bundle.
+    /// Begins the next bundle. Its number is one more, but never above 2^64 - 1.
     pub fn next(&mut self)
         ensures scanned { HasScanned self.new.scan [] }
         ensures number { self.old.number + 1 < 2 ^ 64 → self.new.number ≡ self.old.number + 1 }
@@ -174,6 +175,7 @@ impl Current {
             return None;
         }
         match self.scan.view() {
+            // This never happens: a bundle that goes on has no view.
             Ok(_) => None,
             Err((fault, offset)) => Some(Fault::Bundle(self.number, offset, fault)),
         }

@@ -3,13 +3,13 @@
 ghost use Rattle.std.specs.Prelude.{◌≡◌, ◌<◌, ◌≤◌, ◌&&◌, true, nat_le, if◌then◌else◌, IsTrue, List, length, ℕ};
 ghost use Rattle.link_bundle.specs.Scan.{scan_size};
 ghost use Rattle.link_run.specs.Made.{tool_of};
-ghost use Rattle.link_run.specs.Reading.{feed_of, CallWaits};
+ghost use Rattle.link_run.specs.Reading.{feed_of, CallWaitsAtMostOnce};
 ghost use Rattle.link_run.specs.Run.{Devices, devices, looks, NoneFailed};
 ghost use Rattle.link_run.specs.NewRun.{IsNewRun};
-ghost use Rattle.link_run.specs.Stages.{AfterStage, IsMore, IsRunAt};
+ghost use Rattle.link_run.specs.Stages.{AfterStage, IsNotLastResult, IsRunAt};
 ghost use Rattle.link_run.specs.Writers.{place_of};
 ghost use Rattle.link_run_over_bundle_files.specs.Telling.{SoFar, none_yet, told_of};
-ghost use Rattle.link_run_over_bundle_files.specs.BundleRun.{BytesCome, AddsSeen, WritesEnd, HasCome, AfterJudge, IsBundleWalkAt, WritesFound, before_last, cut_at};
+ghost use Rattle.link_run_over_bundle_files.specs.BundleRun.{BytesCome, AddsToSeenCount, WritesEnd, HasCome, AfterJudge, IsBundleWalkAt, WritesFound, before_last, cut_at};
 
 use crate::consumer::{BundleConsumer, RunView};
 use crate::current::{Current, Found};
@@ -102,8 +102,8 @@ fn take_bytes<R: InDevice, W: OutDevice, E: OutDevice, C: BundleConsumer>(
     requires some { 0 < most }
     requires fits { IsTrue (C.fits walker.old.consumer) }
     requires read { C.read walker.old.consumer ≤ scan_size walker.old.current.scan }
-    ensures fits { IsMore result → IsTrue (C.fits walker.new.consumer) }
-    ensures read { IsMore result
+    ensures fits { IsNotLastResult result → IsTrue (C.fits walker.new.consumer) }
+    ensures read { IsNotLastResult result
         → C.read walker.new.consumer ≤ scan_size walker.new.current.scan }
     ensures gives { (start : Devices R W E) (history : List ℕ)
         → IsRunAt (looks R.state W.state E.state) (told_of (C.telling options.now)) start true
@@ -114,7 +114,7 @@ fn take_bytes<R: InDevice, W: OutDevice, E: OutDevice, C: BundleConsumer>(
         (place_of (feed_of input.old) writers.old) (place_of (feed_of input.new) writers.new)
         (IsBundleWalkAt R.state (C.telling options.now) (C.knows options.now walker.new.consumer)
         walker.new.current (feed_of input.new)) most history result }
-    ensures waits { CallWaits (looks R.state W.state E.state) (λ source. source)
+    ensures waits { CallWaitsAtMostOnce (looks R.state W.state E.state) (λ source. source)
         input.old input.new writers.old }
 {
     let ready = match input.ready_bytes(writers) {
@@ -143,8 +143,11 @@ fn take_bytes<R: InDevice, W: OutDevice, E: OutDevice, C: BundleConsumer>(
 }
 
 /// Tells the consumer of new bytes of the current bundle, which follow its first `before` bytes.
-/// Then it begins the next bundle if this one is whole, or writes the line of the fault that the
-/// last byte shows.
+/// `found` is what the bytes show.
+///
+/// If the bundle is whole, it then begins the next one. If the bundle is refused, the last byte
+/// shows the fault. Then the consumer is told only of the bytes before that byte, and the line of
+/// the fault is written.
 #[inline(always)]
 fn go_on<W: OutDevice, E: OutDevice, C: BundleConsumer>(
     found: Found,
@@ -157,10 +160,10 @@ fn go_on<W: OutDevice, E: OutDevice, C: BundleConsumer>(
 ) -> Result<Progress, IoFault>
     requires fits { IsTrue (C.fits consumer.old) }
     requires few { length bytes.now ≤ C.wants consumer.old }
-    requires counts { AddsSeen before (length bytes.now) (scan_size current.old.scan) found }
+    requires counts { AddsToSeenCount before (length bytes.now) (scan_size current.old.scan) found }
     requires read { C.read consumer.old ≤ before }
-    ensures fits { IsMore result → IsTrue (C.fits consumer.new) }
-    ensures read { IsMore result → C.read consumer.new ≤ scan_size current.new.scan }
+    ensures fits { IsNotLastResult result → IsTrue (C.fits consumer.new) }
+    ensures read { IsNotLastResult result → C.read consumer.new ≤ scan_size current.new.scan }
     ensures gives { (so_far : SoFar) → C.knows options.now consumer.old so_far
         → BytesCome (C.telling options.now).limit current.old so_far before bytes.now
         → AfterJudge (C.telling options.now).limit C.tells_blocks current.old so_far.begun
@@ -212,6 +215,9 @@ fn before_last(run: &[u8]) -> &[u8]
 }
 
 /// Ends the run at the end of the input. It is a fault if the input ends inside a bundle.
+///
+/// In `WritesEnd`, the first `now` is what had come before the call, and the second is what has
+/// come at its end. They are the same, since no byte comes in this call.
 #[inline(never)]
 fn finish<W: OutDevice, E: OutDevice, C: BundleConsumer>(
     options: &C::Options,

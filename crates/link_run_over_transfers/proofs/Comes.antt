@@ -4,7 +4,7 @@ use Rattle.std.specs.List.{fold}
 use Rattle.std.proofs.lemmas.Bool.{and_right, Decides.nat_tests}
 use Rattle.std.proofs.lemmas.{Grind.fold-append, List.map-append}
 use Rattle.std.proofs.lemmas.List.Elements.{All-head, All-tail}
-use Rattle.link_wire.specs.{Message.data_length, Session.{joined, with_message, with_data, IsLeft}}
+use Rattle.link_wire.specs.{Message.data_length, Session.{joined, with_message, with_data, IsSizeOfDataLeft}}
 use Rattle.link_wire.specs.Stream.{Entry, End, Clean, Cut, Fault, Stream, ended, with_entry, Reading, heads_of}
 use Rattle.link_wire.specs.{Whole.{is_quiet, IsQuiet}, declared.message.Contact.Contact}
 use Rattle.link_wire.specs.declared.message.Message.{Message}
@@ -77,7 +77,7 @@ pub record HasEvents (events : List WalkEvent) (now : Stage) (joiner : Joiner) (
 pub record TellsEvents (telling : Telling) (now : Stage) (joiner : Joiner) (reading : Reading)
     (events : List WalkEvent) : Type 0 where
   pub has : HasEvents events now joiner (walked telling.manner reading)
-  pub waits : StageFits now (walked_before telling.manner reading) reading.end
+  pub fits : StageFits now (walked_before telling.manner reading) reading.end
 
 module _ {telling : Telling} {now : Stage} {joiner : Joiner} {reading : Reading} where
   pub told_at : {knows : List WalkEvent → Type 0} → IsWalkAtReading telling knows now joiner reading
@@ -89,7 +89,7 @@ module _ {telling : Telling} {now : Stage} {joiner : Joiner} {reading : Reading}
       known = refl;
       opened = at.opened;
     };
-    waits = at.waits;
+    fits = at.fits;
   }
 
   pub knows_at : {events : List WalkEvent} → TellsEvents telling now joiner reading events
@@ -99,7 +99,7 @@ module _ {telling : Telling} {now : Stage} {joiner : Joiner} {reading : Reading}
     judges = at.has.judges;
     known = rw at.has.known known;
     opened = rw at.has.known at.has.opened;
-    waits = at.waits;
+    fits = at.fits;
   }
 
 in_segment : (effect : Option Turn)
@@ -109,17 +109,17 @@ in_segment (Some effect) = (λ is. cc, λ is. cc)
 
 -- no bytes that were given wait for the contact header
 pub never_contact : (before : Walked) (end : End) → StageFits stage.Contact before end → ⊥
-never_contact before end waits = grind arith
+never_contact before end fits = grind arith
 
 clean_by : (before : Walked) (end : End) → StageFits stage.Message before end → end ≡ Clean
-clean_by before end waits = grind arith
+clean_by before end fits = grind arith
 
 -- before the head of a message, the reading ends between two messages
 pub at_clean : {telling : Telling} {joiner : Joiner} {reading : Reading}
     {events : List WalkEvent} → TellsEvents telling stage.Message joiner reading events
     → reading.end ≡ Clean
 at_clean {telling} {joiner} {reading} at =
-    clean_by (walked_before telling.manner reading) reading.end at.waits
+    clean_by (walked_before telling.manner reading) reading.end at.fits
 
 -- the contact header has come
 pub contact_comes : (telling : Telling) (joiner : Joiner) (contact : Contact) → IsJoinerAt joiner []
@@ -129,16 +129,16 @@ unfolding walked_of has_open open_of
 contact_comes telling joiner contact judges =
     record {
       has = record { unrefused = refl; judges = judges; known = refl; opened = refl };
-      waits = refl;
+      fits = refl;
     }
 
-waits_with : (manner : Manner) (contact : Option Contact) (entries : List Entry) (offset : ℕ)
+fits_with : (manner : Manner) (contact : Option Contact) (entries : List Entry) (offset : ℕ)
     (sent : Message) (content : List ℕ) (left : ℕ)
     → (let rest : Stream = if nat_lt 0 left then ended (Cut offset sent content)
     else with_entry (entry offset sent content) (ended Clean) in
     StageFits (stage_by (effect_of (walked_of manner contact entries).taken (event_of sent)) left)
     (walked_of manner contact (entries ++ rest.entries)) rest.end)
-waits_with manner contact entries offset sent content left =
+fits_with manner contact entries offset sent content left =
     grind (arith, nat_tests, append-nil {A = Entry})
 
 -- a head has come after the whole messages of a reading
@@ -158,7 +158,7 @@ with_comes telling joiner reading offset sent content left {events} was same has
         walked_all manner reading.contact reading.entries (head ∷ []),
         ← same,
       ) has;
-      waits = rw same (waits_with manner reading.contact reading.entries offset sent content left);
+      fits = rw same (fits_with manner reading.contact reading.entries offset sent content left);
     }
 
 -- ---- the head of a message
@@ -369,30 +369,30 @@ module _ (telling : Telling) (effect : Option Turn) {joiner : Joiner} {reading a
     (some : 0 < length bytes) where
   data_by : (end : End) → reading.end ≡ end
       → StageFits (stage_in effect) (walked_before telling.manner reading) end
-      → IsLeft from (length bytes + left) end
+      → IsSizeOfDataLeft from (length bytes + left) end
       → TellsEvents telling (stage_by effect left) joiner after
       (events ++ told_in (stage_in effect) left bytes)
-  data_by Clean ends waits to_come = absurd ((in_segment effect).0 (sym waits))
-  data_by (Cut offset sent content) ends waits to_come =
+  data_by Clean ends fits to_come = absurd ((in_segment effect).0 (sym fits))
+  data_by (Cut offset sent content) ends fits to_come =
       let before = walked_before telling.manner reading in
       let head = entry offset sent content in
       rw (
         is,
         ends,
-        later_is effect (effect_of before.taken (event_of sent)) left waits,
-        waits,
+        later_is effect (effect_of before.taken (event_of sent)) left fits,
+        fits,
       )
       (with_comes telling joiner reading offset sent (content ++ bytes) left before refl
       (data_has telling.manner before joiner offset sent content bytes left to_come.2 some
-      (rw (ends, walked_all telling.manner reading.contact reading.entries (head ∷ []), waits)
+      (rw (ends, walked_all telling.manner reading.contact reading.entries (head ∷ []), fits)
       at at.has)))
-  data_by (Fault offset fault) ends waits to_come = absurd waits
+  data_by (Fault offset fault) ends fits to_come = absurd fits
 
   -- data of a segment has come
-  pub data_comes : IsLeft from (length bytes + left) reading.end
+  pub data_comes : IsSizeOfDataLeft from (length bytes + left) reading.end
       → TellsEvents telling (stage_by effect left) joiner after
       (events ++ told_in (stage_in effect) left bytes)
-  data_comes to_come = data_by reading.end refl at.waits to_come
+  data_comes to_come = data_by reading.end refl at.fits to_come
 
 pub stage_some : (effect : Option Turn) (left : ℕ) → 0 < left
     → stage_by effect left ≡ stage_in effect
@@ -444,5 +444,5 @@ module _ (telling : Telling) (unwanted : telling.manner.all_heads ≡ false) (jo
           ← heads_clean reading (at_clean at),
           walked_all telling.manner reading.contact (heads_of reading) entries,
         ) (all_quiet entries (walked telling.manner reading) at.has quiet);
-        waits = refl;
+        fits = refl;
       })

@@ -4,7 +4,7 @@ use Rattle.std.proofs.KnownBytes.{Consumes-trans}
 use Rattle.link_io.proofs.Sources.{Takes-none, Takes-then}
 use Rattle.link_wire.specs.{Device.Input, Inner.{PassedInner, inner_segment}, Limits.longest_head}
 use Rattle.link_wire.specs.Message.{data_length}
-use Rattle.link_wire.specs.Session.{source_of, left_of, IsSessionAt, GivenContact, ReachedEnd, GivenMessage, LoadedData, PassedBytes, with_message}
+use Rattle.link_wire.specs.Session.{source_of, left_of, IsSessionAt, GivenContact, ReachedEnd, GivenHead, LoadedData, PassedBytes, with_message}
 use Rattle.link_wire.specs.Source.{Takes, ahead, given_by}
 use Rattle.link_wire.specs.Stream.{Reading, reading_of, cut_heads}
 use Rattle.link_wire.specs.{Whole.PassedQuietMessages, declared.IoFault.IoFault}
@@ -29,7 +29,7 @@ use Rattle.link_run.proofs.Runs.{few_over, sound_given, writer_lost, written_giv
 use Rattle.link_run.proofs.{Sessions.{then_fault, part_unshown}, Stands.{ends, stands_on}}
 use Rattle.link_run_over_transfers.specs.Telling.{HeadComes, Tells, data_ends, inner_events, inner_head}
 use Rattle.link_run_over_transfers.specs.Walk.{head_at, is_plain, WalkEvent, ContactHeader, MessageHead, Whole, data_events, data_size, data_size_of, has_open, Walked, walked, head_events, Telling, told_of}
-use Rattle.link_run_over_transfers.specs.WalkRun.{IsWalkAt, IsTellingRunAt, AfterWalkBytes, WalkState, AfterWalkStep, HasNoDataYet, TellsEnd, TakesMessages, most_by, stage_in, stage_by}
+use Rattle.link_run_over_transfers.specs.WalkRun.{IsWalkAt, IsTellingRunAt, AfterWalkBytes, WalkState, AfterWalkStep, IfInSegmentNoDataGiven, TellsEnd, TakesMessages, most_by, stage_in, stage_by}
 use Rattle.link_run_over_transfers.specs.declared.walk.Stage.{Stage}
 use Rattle.link_run_over_transfers.specs.declared.walk.Stage.TheVariants as stage
 use Rattle.link_run_over_transfers.proofs.Comes.{TellsEvents, MayTake, told_at, knows_at, told_in, contact_comes, head_comes, data_comes, quiet_comes, stage_some}
@@ -132,7 +132,7 @@ module _ {R : Type 0} {look : R → Input} {telling : Telling} {old : Session R}
 
   -- the head of a message was taken
   pub head_come : {new : Session R} {offset : ℕ} {sent : Message}
-      (got : GivenMessage look old new history offset sent) (after : Joiner)
+      (got : GivenHead look old new history offset sent) (after : Joiner)
       → MayTake telling.manner taken sent → IsJoinerAt after (with_taken taken sent)
       → (later : Stage) → later ≡ stage_by (effect_of taken (event_of sent)) (data_length sent)
       → HasToldEvents look telling later new after (history ++ got.given)
@@ -195,7 +195,7 @@ module _ {R : Type 0} {look : R → Input} {telling : Telling} {now : Stage} {se
   texts_told = texts_are telling bytes ∙ ap telling.texts come.comes.has.known
 
   shows_fault-false : shows_fault (told_of telling bytes).stop ≡ false
-  shows_fault-false = at_unshown telling now bytes come.comes.has.unrefused come.comes.waits
+  shows_fault-false = at_unshown telling now bytes come.comes.has.unrefused come.comes.fits
 
 -- These bytes were given, and the events that they add were told.
 module _ {R W E C : Type 0} {look : Looks R W E} {start : Devices R W E} {telling : Telling}
@@ -240,7 +240,7 @@ module _ {R W E C : Type 0} {look : Looks R W E} {start : Devices R W E} {tellin
       )
 
   pub told_step : (piece : ℕ) (now : Stage) → length given ≤ most_by piece now
-      → HasNoDataYet now (reading_of (history ++ given)).end
+      → IfInSegmentNoDataGiven now (reading_of (history ++ given)).end
       → (result : Result (Unit {0}) IoFault)
       → Tells look.output look.report telling (knows consumer) (events_at telling history) added
       before after result
@@ -267,7 +267,7 @@ module _ {R W E C : Type 0} {look : Looks R W E} {start : Devices R W E} {tellin
 
 -- a head has no data yet
 pub waits_after : (offset : ℕ) (sent : Message) (reading after : Reading)
-    → after ≡ with_message offset sent reading → HasNoDataYet stage.Message after.end
+    → after ≡ with_message offset sent reading → IfInSegmentNoDataGiven stage.Message after.end
 waits_after offset sent reading after is = rw is (grind arith)
 
 -- ---- the end
@@ -295,7 +295,7 @@ module _ {R W E : Type 0} {look : Looks R W E} {start : Devices R W E} (telling 
 
   -- the run ends at a head that is not in order
   pub refused : {offset : ℕ} {sent : Message}
-      (got : GivenMessage look.input old new history offset sent)
+      (got : GivenHead look.input old new history offset sent)
       → cut_heads (reading_of history).end ≡ [] → (fault : OrderFault)
       → walked telling.manner (reading_of (history ++ got.given))
       ≡ record here { refused = Some (offset, fault) }

@@ -13,7 +13,7 @@ use Rattle.link_run.specs.declared.{next.Next.Next}
 use Rattle.link_run.specs.declared.next.Next.TheVariants as next
 use Rattle.link_run.proofs.{Stands.last_step, Strides.{bounded, went_with, step_then}, Waiting.waits_then}
 use Rattle.link_run_over_transfers.specs.Walk.{WalkEvent, Telling, told_of}
-use Rattle.link_run_over_transfers.specs.WalkRun.{WalkState, place_at, most_by, walked_before, IsWalkAt, IsWalkAtStage, IfNextStage, AfterWalkStep, AfterWalkStride, TakesBytes, IfWalkAtStage, Steps, Strides, TakesMessages}
+use Rattle.link_run_over_transfers.specs.WalkRun.{WalkState, place_at, most_by, walked_before, IsWalkAt, IsWalkAtStage, IfNextIsStage, AfterWalkStep, AfterWalkStride, TakesBytes, IfWalkAtStage, Steps, Strides, TakesMessages}
 use Rattle.link_run_over_transfers.specs.declared.walk.Stage.{Stage}
 use Rattle.link_run_over_transfers.specs.declared.walk.Stage.TheVariants as stage
 use Rattle.link_run_over_transfers.proofs.Comes.{never_contact}
@@ -37,7 +37,7 @@ walking_at : {R C : Type 0} {look : R → Seen} {telling : Telling}
     → IsWalkAtStage look telling knows now joiner consumer session history
 walking_at {telling = telling} {history = history} stage.Contact at =
     absurd (never_contact (walked_before telling.manner (reading_of history))
-    (reading_of history).end at.at.waits)
+    (reading_of history).end at.at.fits)
 walking_at now at = at
 
 module _ {R W E C : Type 0} (look : Looks R W E) (start : Devices R W E) (telling : Telling)
@@ -52,7 +52,7 @@ module _ {R W E C : Type 0} (look : Looks R W E) (start : Devices R W E) (tellin
     most + far.0,
     (let some = far.1 in omega arith),
     step_then look (tool_of (told_of telling)) start (place_at old) (place_at mid) (place_at new)
-        stands (IfNextStage look start telling knows new result) history most far.0
+        stands (IfNextIsStage look start telling knows new result) history most far.0
         (progress_of result) went far.2,
   )
 
@@ -110,7 +110,7 @@ module _ {R W E C : Type 0} {look : Looks R W E} {telling : Telling}
           most_by piece now + length taken.given,
           omega arith,
           step_then look (tool_of (told_of telling)) start (place_at old) (place_at mid)
-              (place_at new) _ (IfNextStage look start telling knows new result) history
+              (place_at new) _ (IfNextIsStage look start telling knows new result) history
               (most_by piece now) (length taken.given) (progress_of result) went
               (as_step start (history ++ went.given) result went.window
               went.at.0.0.written.count taken),
@@ -125,7 +125,7 @@ module _ {R W E C : Type 0} {look : Looks R W E} {telling : Telling}
           → given_by (source_of (feed_of mid.input)) ≡ length bytes
           → (taken : TakesBytes look start telling knows mid new bytes result)
           → AfterStep look (tool_of (told_of telling)) start (place_at mid) (place_at new)
-          (IfNextStage look start telling knows new result) (length taken.given) bytes
+          (IfNextIsStage look start telling knows new result) (length taken.given) bytes
           (progress_of result)
       as_step start bytes (next.Stage now) few count taken = record {
         given = taken.given;

@@ -3,7 +3,7 @@
 use Rattle.std.proofs.Common.{arith, ◌≡◌, ℕ, ◌<◌, true, false, List, [], ◌∷◌, ◌++◌, Option, Some, None, refl, ap, sym, ◌∙◌, ⊎_elim, append_assoc}
 use Rattle.std.specs.List.{fold}
 use Rattle.std.proofs.lemmas.List.Folds.{fold_stays}
-use Rattle.link_wire.specs.{Device.Input, Session.{IsLeft, left_of}}
+use Rattle.link_wire.specs.{Device.Input, Session.{IsSizeOfDataLeft, left_of}}
 use Rattle.link_wire.specs.Stream.{Entry, End, Clean, Cut, Fault, Stream, Reading, reading_of, cut_heads}
 use Rattle.link_wire.specs.declared.session.Session.{Session}
 use Rattle.link_wire.proofs.Contacts.{reading-none}
@@ -55,24 +55,24 @@ same_texts telling first unrefused none = λ other same is.
 
 waiting_unshown : (now : Stage) (before : Walked) (end : End) → StageFits now before end
     → shows_fault (stop_of end) ≡ false
-waiting_unshown now before end waits = grind arith
+waiting_unshown now before end fits = grind arith
 
 -- between two messages, and inside data, no fault is shown
 pub at_unshown : (telling : Telling) (now : Stage) (bytes : List ℕ)
     → (walked telling.manner (reading_of bytes)).refused ≡ None
     → StageFits now (walked_before telling.manner (reading_of bytes)) (reading_of bytes).end
     → shows_fault (told_of telling bytes).stop ≡ false
-at_unshown telling now bytes unrefused waits =
+at_unshown telling now bytes unrefused fits =
     let reading = reading_of bytes in
     rw (told_of-reading telling bytes, stop_is telling reading unrefused)
-    (waiting_unshown now (walked_before telling.manner reading) reading.end waits)
+    (waiting_unshown now (walked_before telling.manner reading) reading.end fits)
 
 -- if the reading waits for data, some is to come
 some_left : (now : Stage) (before : Walked) (offset left : ℕ) (end : End)
-    → IsLeft offset left end → StageFits now before end → (now ≡ stage.Message → ⊥) → 0 < left
-some_left now before offset left Clean is waits in_segment = absurd (in_segment waits)
-some_left now before offset left (Cut from sent content) is waits in_segment = is.0
-some_left now before offset left (Fault from fault) is waits in_segment = absurd is
+    → IsSizeOfDataLeft offset left end → StageFits now before end → (now ≡ stage.Message → ⊥) → 0 < left
+some_left now before offset left Clean is fits in_segment = absurd (in_segment fits)
+some_left now before offset left (Cut from sent content) is fits in_segment = is.0
+some_left now before offset left (Fault from fault) is fits in_segment = absurd is
 
 pub some_to_come : {R C : Type 0} {look : R → Input} {telling : Telling}
     {knows : C → List WalkEvent → Type 0} {now : Stage} {session : Session R} {joiner : Joiner}
@@ -82,7 +82,7 @@ some_to_come {telling = telling} {now = now} {session = session} {history = hist
     in_segment =
     let reading = reading_of history in
     some_left now (walked_before telling.manner reading) session.offset session.left reading.end
-    walks.session_at.left walks.at.waits in_segment
+    walks.session_at.left walks.at.fits in_segment
 
 -- ---- no bytes
 

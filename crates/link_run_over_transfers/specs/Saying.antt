@@ -13,7 +13,7 @@ use Rattle.link_run_over_transfers.specs.Telling.{Tells}
 use Rattle.link_run_over_transfers.specs.declared.consumer.Manner.{Manner}
 
 -- what a tool keeps, and what it says
-pub record Keeping (S : Type 0) : Type 0 where
+pub record StatefulTool (S : Type 0) : Type 0 where
   -- what is kept before the first event
   pub start : S
   -- what is kept after one more event
@@ -23,7 +23,7 @@ pub record Keeping (S : Type 0) : Type 0 where
   -- whether everything is good so far, by what is kept
   pub good : S → Bool
 
-module _ {S : Type 0} (keeping : Keeping S) where
+module _ {S : Type 0} (keeping : StatefulTool S) where
   -- what is kept after these events, if the first argument was kept before them
   abbrev pub kept_after : S → List WalkEvent → S
   kept_after kept events = fold keeping.next kept events
@@ -34,7 +34,8 @@ module _ {S : Type 0} (keeping : Keeping S) where
   said_from kept (event ∷ more) =
       keeping.says kept event then said_from (keeping.next kept event) more
 
-  -- what is said of all events, if they come in this manner
+  -- The `Telling` of a tool that keeps and says this, and that goes about a stream in this manner.
+  -- It gives what the tool says of a whole list of events, and whether everything in them is good.
   abbrev pub telling_of : Manner → Telling
   telling_of manner = record {
     manner = manner;
@@ -53,8 +54,8 @@ module _ {S : Type 0} (keeping : Keeping S) where
       ∙ ap (λ (texts : Texts). keeping.says kept event then texts)
       (said_from-append now first second)
 
-  -- Let a tool have what is kept of the events before. If it writes what is said of the events
-  -- added, and then has what is kept after them, `Tells` holds.
+  -- Let a tool keep `now` after the events `before`. If it writes what is said of the events
+  -- `added`, and keeps `later` after them, `Tells` holds.
   pub keeps_telling : (manner : Manner) {W E : Type 0} (out_look : W → Output)
       (report_look : E → Output) (before added : List WalkEvent) (old new : Writers W E)
       (now later : S) (texts : Texts) (result : Result (Unit {0}) IoFault)

@@ -2,7 +2,7 @@
 use Rattle.std.specs.Prelude.{◌≡◌, ℕ, ◌+◌, ◌^◌, ◌<◌, Bool, true, false, is_some, List, [], ◌∷◌, ◌++◌, length, Some, None, Result, OnOk, if◌then◌else◌}
 use Rattle.link_wire.specs.Device.{Output}
 use Rattle.link_wire.specs.Inner.{inner_segment}
-use Rattle.link_wire.specs.MessageBuffer.{SegmentTotalsFit, message_of}
+use Rattle.link_wire.specs.MessageBuffer.{IfSegmentItemsHaveTotals, message_of}
 use Rattle.link_wire.specs.declared.{IoFault.IoFault, message.Message.Message}
 use Rattle.link_transfer.specs.Order.{open_of}
 use Rattle.link_transfer.specs.declared.joiner.Turn.TheVariants.{Continue}
@@ -23,8 +23,8 @@ viewed_head head = record {
   turn = head.turn;
 }
 
--- The head may come after these events: it is judged after the messages that were taken, and a
--- transfer is open after these if and only if one is open after the events.
+-- The head may come after the events `before`. It is judged after the messages `taken`. A transfer
+-- is open after these messages if and only if one is open after the events.
 pub record HeadComes (before : List WalkEvent) (head : Head) : Type 0 where
   pub taken : List Message
   pub is : head ≡ head_at taken head.offset head.message
@@ -39,7 +39,9 @@ inner_head offset id size = record {
   turn = Some (Continue false);
 }
 
--- A segment in the middle of the open transfer may come after these events, with all of its data.
+-- After these events, a tool may be told of a segment in the middle of the open transfer, with all
+-- of its data. Only a tool that is told of all heads is told in this way. `few` bounds the data of
+-- all events.
 pub record InnerComes (manner : Manner) (before : List WalkEvent) (head : Head) (size : ℕ)
     : Type 0 where
   pub told : manner.all_heads ≡ true
@@ -66,7 +68,8 @@ viewed_events (view.Data bytes whole) = data_ends bytes.now whole
 viewed_events view.LeftOpen = LeftOpen ∷ []
 
 -- Whether a tool may be told of this after these events. The contact header comes first. Data comes
--- while a transfer is open, and no more than 2^63 - 1 bytes of it.
+-- only if a transfer is open, and all data together has at most 2^63 - 1 bytes. `LeftOpen` also
+-- comes only if a transfer is open.
 abbrev pub MayCome : Manner → (before : List WalkEvent) → EventView → Type 0
 MayCome manner before (view.Contact contact) = before ≡ []
 MayCome manner before (view.Head head) = HeadComes before (viewed_head head)
@@ -76,11 +79,12 @@ MayCome manner before (view.Data bytes whole) =
     (has_open before ≡ true) × (data_size before + length bytes.now < 2 ^ 63)
 MayCome manner before view.LeftOpen = has_open before ≡ true
 
--- if this is the head of a segment, the total of each of its Transfer Length items was kept
-abbrev pub EventTotalsFit : EventView → Type 0
-EventTotalsFit (view.Head head) = SegmentTotalsFit head.message.now
-EventTotalsFit (view.Inner head bytes) = SegmentTotalsFit head.message.now
-EventTotalsFit event = Unit {0}
+-- if this event shows the head of a segment, the segment's buffer contains the total of each
+-- Transfer Length item (`IfSegmentItemsHaveTotals`)
+abbrev pub IfHeadItemsHaveTotals : EventView → Type 0
+IfHeadItemsHaveTotals (view.Head head) = IfSegmentItemsHaveTotals head.message.now
+IfHeadItemsHaveTotals (view.Inner head bytes) = IfSegmentItemsHaveTotals head.message.now
+IfHeadItemsHaveTotals event = Unit {0}
 
 module _ {W E : Type 0} (out_look : W → Output) (report_look : E → Output)
     (telling : Telling) (knows : List WalkEvent → Type 0) (before added : List WalkEvent)

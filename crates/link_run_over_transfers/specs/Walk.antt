@@ -50,7 +50,8 @@ abbrev pub abandons : Option Turn → Bool
 abandons (Some (turn.Begin abandoned last)) = is_some abandoned
 abandons _ = false
 
--- Whether the transfer is over with the head of its last segment, which has no data.
+-- Whether the transfer is over with this head. It is if the message is the last segment, and has no
+-- data.
 abbrev pub closes : Head → Bool
 closes head = is_last head.turn && (data_length head.message == 0)
 
@@ -74,16 +75,17 @@ pub data WalkEvent : Type 0 where
 abbrev pub data_events : List ℕ → List WalkEvent
 data_events bytes = map Data bytes
 
--- the number of bytes of data among these events
+-- the number of bytes of data that an event is: one or none
 abbrev pub data_size_of : WalkEvent → ℕ
 data_size_of (Data byte) = 1
 data_size_of _ = 0
 
+-- the number of bytes of data among these events
 unfoldable pub data_size : List WalkEvent → ℕ
 data_size events = fold (λ size event. size + data_size_of event) 0 events
 
--- whether a transfer is open after a head with this effect, which ends its transfer if `closing`;
--- `was` is whether one was open before
+-- Whether a transfer is open after a head with this effect. `closing` is whether the head ends its
+-- transfer, and `was` is whether a transfer was open before.
 abbrev pub open_with : Option Turn → (closing was : Bool) → Bool
 open_with None closing was = was
 open_with (Some turn.Other) closing was = was
@@ -116,8 +118,10 @@ abbrev pub head_events : (all_heads : Bool) → Head → List WalkEvent
 head_events all_heads head =
     if all_heads || not (is_plain head) then MessageHead head ∷ [] else []
 
--- The events of a segment's data. The last byte of the last segment ends the transfer. Data of a
--- stray segment is no event, and a message of another kind has none.
+-- The events of a segment's data. `content` is what has come of it, and `size` is its whole length.
+-- The last byte of the last segment ends the transfer. If that segment has no data, its head has
+-- ended the transfer before. With `None`, the segment is stray, and its data is no event. With
+-- `Other`, the message is no segment, and has no data.
 abbrev pub content_events : Option Turn → (size : ℕ) → (content : List ℕ) → List WalkEvent
 content_events None size content = []
 content_events (Some turn.Other) size content = []
@@ -187,7 +191,8 @@ pub record Telling : Type 0 where
 abbrev pub end_events : List Message → List WalkEvent
 end_events taken = if is_some (open_of taken) then LeftOpen ∷ [] else []
 
--- a stream stops at the head at which the run ends, or else where its reading stops
+-- A stream stops at the head at which the run ends, or else where its reading stops. The fault of
+-- that head lasts when more bytes come.
 abbrev pub stop_by : Option (ℕ × OrderFault) → End → Option StreamStop
 stop_by (Some (offset, fault)) end = Some (record { fault = Order offset fault; lasts = true })
 stop_by None end = stop_of end

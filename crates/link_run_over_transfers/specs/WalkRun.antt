@@ -16,9 +16,9 @@ use Rattle.link_transfer.specs.declared.joiner.Turn.{Turn}
 use Rattle.link_report.specs.Fault.{fault_text}
 use Rattle.link_report.specs.declared.fault.Fault.TheVariants.{Order}
 use Rattle.link_run.specs.Made.{tool_of}
-use Rattle.link_run.specs.Run.{Texts, ◌then◌, Looks, Devices, Place, devices_at, EndedRun, HasNoEarlierFault, ContinuedStep, EndingStep, AfterStep}
+use Rattle.link_run.specs.Run.{Texts, ◌then◌, Looks, Devices, DevicesInRun, devices_at, AfterRunAnswer, HasNoEarlierFault, ContinuedStep, EndingStep, AfterStep}
 use Rattle.link_run.specs.Next.{next_of, progress_of}
-use Rattle.link_run.specs.Reading.{feed_of, SessionWaits}
+use Rattle.link_run.specs.Reading.{feed_of, SessionWaitsAtMostOnce}
 use Rattle.link_run.specs.Stages.{IsRunAt}
 use Rattle.link_run.specs.Writers.{place_of, on_report, AfterLastWrite}
 use Rattle.link_run.specs.declared.{input.Input.Input, next.Next.Next, run.Status.Status}
@@ -41,7 +41,7 @@ by_stage contact head piece stage.Message = head
 by_stage contact head piece _ = piece
 
 -- the most bytes that a step at this stage is given: the 6 bytes of a contact header (RFC 9174
--- section 4.2), those of the longest head, or `piece` bytes of data
+-- section 4.2), the bytes of the longest head, or `piece` bytes of data
 abbrev pub most_by : (piece : ℕ) → Stage → ℕ
 most_by piece now = by_stage 6 longest_head piece now
 
@@ -52,7 +52,8 @@ may_go_on stage.Message session = may_read session
 may_go_on (stage.Data last) session = is_opened session
 may_go_on stage.Stray session = is_opened session
 
--- whether the session permits the call that comes next
+-- Whether the session permits the call of the stage that comes next. After the end of a run, no
+-- call comes, so any session will do.
 abbrev pub may_follow : {R : Type 0} → Next Stage → Session R → Bool
 may_follow (next.Stage now) session = may_go_on now session
 may_follow (next.Ended answer) session = true
@@ -69,8 +70,8 @@ stage_by turn (suc left) = stage_in turn
 
 -- ---- the head of a message, and the end of a stream
 
--- The consumer was told of a head, and a stage comes next; or a writer failed while writing what is
--- said of the head.
+-- The consumer was told of a head, and a stage comes next, or a writer failed while writing what is
+-- said of the head. `left` bytes of data follow the head.
 abbrev pub TellsHead : {W E : Type 0} → (W → Output) → (E → Output) → Telling
     → (knows : List WalkEvent → Type 0) → (before : List WalkEvent) → Head → (left : ℕ)
     → (old new : Writers W E) → Next Stage → Type 0
@@ -79,16 +80,18 @@ TellsHead out_look report_look telling knows before head left old new result =
     × Tells out_look report_look telling knows before (head_events telling.manner.all_heads head)
     old new told
 
--- the run has ended at a head that is not in order, with the line of its fault
-abbrev pub EndsAtHead : {W E : Type 0} → (W → Output) → (E → Output) → (offset : ℕ) → OrderFault
+-- The run has ended at a head that is not in order. The line of the head's fault was written, and
+-- the status is 3, or a writer failed.
+abbrev pub EndsAtRefusedHead : {W E : Type 0} → (W → Output) → (E → Output) → (offset : ℕ)
+    → OrderFault
     → (old new : Writers W E) → Next Stage → Type 0
-EndsAtHead out_look report_look offset fault old new result =
+EndsAtRefusedHead out_look report_look offset fault old new result =
     (answer : Result Status IoFault) × (result ≡ next.Ended answer)
     × AfterLastWrite out_look report_look old new (on_report (fault_text (Order offset fault))) 3
     answer
 
--- A stream has ended between two messages: what is said of its end was written, and the status is
--- 0 if everything is good, and else 1.
+-- A stream has ended between two messages. What is said of the end was written, or a writer failed.
+-- The status is 0 if everything is good, and else 1.
 abbrev pub TellsEnd : {W E : Type 0} → (W → Output) → (E → Output) → Telling
     → (taken : List Message) → (events : List WalkEvent) → (old new : Writers W E)
     → Result Status IoFault → Type 0
@@ -115,17 +118,18 @@ abbrev pub is_open_at : Stage → List Message → Bool
 is_open_at (stage.Data last) taken = true
 is_open_at _ taken = is_some (open_of taken)
 
--- How the reading ends after a step, if data of a segment is still to come. A step that reads a
--- head is given none of that data.
-abbrev pub HasNoDataYet : Stage → End → Type 0
-HasNoDataYet stage.Message (Cut offset message content) = content ≡ []
-HasNoDataYet now end = Unit {0}
+-- After a step at the stage `Message`, the reading may end inside a segment. Then none of the
+-- segment's data was given, since such a step reads only a head.
+abbrev pub IfInSegmentNoDataGiven : Stage → End → Type 0
+IfInSegmentNoDataGiven stage.Message (Cut offset message content) = content ≡ []
+IfInSegmentNoDataGiven now end = Unit {0}
 
 -- what the whole messages of a reading tell
 abbrev pub walked_before : Manner → Reading → Walked
 walked_before manner reading = walked_of manner reading.contact reading.entries
 
--- the state of a walk whose bytes so far have this reading
+-- The state of a walk whose bytes so far have this reading. No head has ended the run. The joiner,
+-- what the consumer knows, and the stage agree with the reading.
 pub record IsWalkAtReading (telling : Telling) (knows : List WalkEvent → Type 0) (now : Stage)
     (joiner : Joiner)
     (reading : Reading) : Type 0 where
@@ -134,7 +138,7 @@ pub record IsWalkAtReading (telling : Telling) (knows : List WalkEvent → Type 
   pub known : knows (walked telling.manner reading).events
   pub opened : has_open (walked telling.manner reading).events
       ≡ is_open_at now (walked telling.manner reading).taken
-  pub waits : StageFits now (walked_before telling.manner reading) reading.end
+  pub fits : StageFits now (walked_before telling.manner reading) reading.end
 
 module _ {R C : Type 0} (look : R → Seen) (telling : Telling) (knows : C → List WalkEvent → Type 0) where
   -- a walk that begins was given nothing
@@ -158,7 +162,7 @@ module _ {R C : Type 0} (look : R → Seen) (telling : Telling) (knows : C → L
       history
   IsWalkAtStage now joiner consumer session history = IsWalkAt now session joiner consumer history
 
--- `IsRunAt` for a walk
+-- `IsRunAt` for the tool of this `telling`, which has begun to write
 abbrev pub IsTellingRunAt : {R W E : Type 0} → Looks R W E → Devices R W E → Telling → Session R
     → Writers W E → (history : List ℕ) → Type 0
 IsTellingRunAt look start telling session writers history =
@@ -182,7 +186,7 @@ at input writers walker = record {
 }
 
 -- the place of the run in this state of the walk: its source and its writers
-abbrev pub place_at : {R W E C : Type 0} → WalkState R W E C → Place R W E
+abbrev pub place_at : {R W E C : Type 0} → WalkState R W E C → DevicesInRun R W E
 place_at now = place_of (source_of (feed_of now.input)) now.writers
 
 module _ {R W E C : Type 0} (look : Looks R W E) (start : Devices R W E) (telling : Telling)
@@ -193,30 +197,32 @@ module _ {R W E C : Type 0} (look : Looks R W E) (start : Devices R W E) (tellin
       IsTellingRunAt look start telling session writers history
       × IsWalkAt look.input telling knows now session joiner consumer history
 
-  -- what holds after a step at the stage `now`
+  -- What holds after a step at the stage `now`. If a stage comes next, the walk is at that stage
+  -- with the bytes so far, and `IfInSegmentNoDataGiven` holds. Otherwise the run has ended.
   abbrev pub AfterWalkStep : (piece : ℕ) → (now : Stage) → (old new : Session R)
       → Writers W E → Joiner → C → (history : List ℕ) → Next Stage → Type 0
   AfterWalkStep piece now old new after joiner consumer history (next.Stage later) =
       ContinuedStep (source_of old) (source_of new)
       (λ bytes. IsWalkRunAt later new after joiner consumer bytes
-      × HasNoDataYet now (reading_of bytes).end) (most_by piece now) history
+      × IfInSegmentNoDataGiven now (reading_of bytes).end) (most_by piece now) history
   AfterWalkStep piece now old new after joiner consumer history (next.Ended answer) =
       EndingStep look (tool_of (told_of telling)) start (place_of (source_of new) after)
       (most_by piece now) history answer
 
   -- the state of the walk if a stage comes next
-  abbrev pub IfNextStage : WalkState R W E C → Next Stage → (history : List ℕ) → Type 0
-  IfNextStage new (next.Stage now) history =
+  abbrev pub IfNextIsStage : WalkState R W E C → Next Stage → (history : List ℕ) → Type 0
+  IfNextIsStage new (next.Stage now) history =
       IsWalkRunAt now (feed_of new.input) new.writers new.joiner new.consumer history
-  IfNextStage new (next.Ended answer) history = Unit {0}
+  IfNextIsStage new (next.Ended answer) history = Unit {0}
 
-  -- what holds after a stride, which was given at most some number of bytes
+  -- What holds after a stride. `size` bounds the bytes that it was given, and may be any number
+  -- above 0.
   abbrev pub AfterWalkStride : (old new : WalkState R W E C) → (history : List ℕ) → Next Stage
       → Type 0
   AfterWalkStride old new history next =
       (size : ℕ) × (0 < size)
       × AfterStep look (tool_of (told_of telling)) start (place_at old) (place_at new)
-      (IfNextStage new next) size history (progress_of next)
+      (IfNextIsStage new next) size history (progress_of next)
 
 -- ---- messages that lie whole in the window
 
@@ -228,7 +234,7 @@ module _ {R W E C : Type 0} (look : Looks R W E) (start : Devices R W E) (tellin
   AfterWalkBytes session writers joiner consumer history (next.Stage now) =
       IsWalkRunAt look start telling knows now session writers joiner consumer history
   AfterWalkBytes session writers joiner consumer history (next.Ended answer) =
-      EndedRun look (tool_of (told_of telling)) start
+      AfterRunAnswer look (tool_of (told_of telling)) start
       (devices_at (place_of (source_of session) writers)) history answer
       × HasNoEarlierFault (tool_of (told_of telling)) history
 
@@ -255,28 +261,30 @@ module _ {R W E C : Type 0} (look : Looks R W E) (telling : Telling)
       (feed_of old.input) history
       → after
 
-  -- a call at the stage `now` waits at most once
-  abbrev pub WalkWaits : (now : Stage) → (old new : WalkState R W E C) → Type 0
-  WalkWaits now old new =
+  -- A call at the stage `now` waits at most once, and only after all that was written was handed
+  -- on. Without a wait, it reads nothing (`SessionWaitsAtMostOnce`).
+  abbrev pub WalkWaitsAtMostOnce : (now : Stage) → (old new : WalkState R W E C) → Type 0
+  WalkWaitsAtMostOnce now old new =
       (history : List ℕ)
       → IsWalkAtStage look.input telling knows now old.joiner old.consumer
       (feed_of old.input) history
-      → SessionWaits look old.input new.input old.writers
+      → SessionWaitsAtMostOnce look old.input new.input old.writers
 
-  -- what a step at the stage `now` does, which takes at most `piece` bytes of data
+  -- What a step at the stage `now` does, and how it waits. The step takes at most `piece` bytes of
+  -- data.
   pub record Steps (piece : ℕ) (now : Stage) (old new : WalkState R W E C) (result : Next Stage)
       : Type 0 where
     pub holds : (start : Devices R W E) (history : List ℕ) → IfWalkAtStage start now old history
         (AfterWalkStep look start telling knows piece now (feed_of old.input) (feed_of new.input)
         new.writers new.joiner new.consumer history result)
-    pub waits : WalkWaits now old new
+    pub waits : WalkWaitsAtMostOnce now old new
 
-  -- what a stride does that begins at the stage `now`
+  -- what a stride from the stage `now` does, and how it waits
   pub record Strides (now : Stage) (old new : WalkState R W E C)
       (result : Next Stage) : Type 0 where
     pub holds : (start : Devices R W E) (history : List ℕ) → IfWalkAtStage start now old history
         (AfterWalkStride look start telling knows old new history result)
-    pub waits : WalkWaits now old new
+    pub waits : WalkWaitsAtMostOnce now old new
 
   -- messages that lie whole in the window are taken, or none
   pub record TakesMessages (old new : WalkState R W E C) (result : Next Stage) : Type 0 where

@@ -2,7 +2,7 @@
 
 ghost use Rattle.std.specs.Prelude.{◌≡◌, List};
 ghost use Rattle.link_run_over_transfers.specs.Walk.{Telling, WalkEvent};
-ghost use Rattle.link_run_over_transfers.specs.Telling.{EventTotalsFit, MayCome, Tells, viewed_events};
+ghost use Rattle.link_run_over_transfers.specs.Telling.{IfHeadItemsHaveTotals, MayCome, Tells, viewed_events};
 
 use crate::head::HeadView;
 use link_run::Writers;
@@ -58,7 +58,7 @@ pub trait Consumer: Sized {
         event: EventView<'_>,
         writers: &mut Writers<W, E>,
     ) -> Result<(), IoFault>
-        requires { EventTotalsFit event }
+        requires { IfHeadItemsHaveTotals event }
         ensures { (before : List WalkEvent) → knows options.now self.old before
             → MayCome (telling options.now).manner before event.entry
             → Tells W.state E.state (telling options.now) (knows options.now self.new) before

@@ -39,7 +39,8 @@ impl HeadView<'_> {
         }
     }
 
-    /// Whether the transfer is over with this head: its last segment has this head, and no data.
+    /// Whether the transfer is over with this head. It is if the message is the last segment, and
+    /// has no data.
     #[inline(always)]
     pub fn closes(&self) -> bool
         ensures { result ≡ closes (viewed_head self.now) }

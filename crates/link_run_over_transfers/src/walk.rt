@@ -2,7 +2,7 @@
 
 ghost use Rattle.std.specs.Prelude.{◌≡◌, ◌+◌, ◌^◌, ◌&&◌, ◌==◌, ◌<◌, ◌≤◌, true, false, [], is_some, IsTrue, List, length, ℕ, Some};
 ghost use Rattle.link_wire.specs.Inner.{inner_segment};
-ghost use Rattle.link_wire.specs.MessageBuffer.{SegmentTotalsFit, message_of};
+ghost use Rattle.link_wire.specs.MessageBuffer.{IfSegmentItemsHaveTotals, message_of};
 ghost use Rattle.link_wire.specs.Session.{source_of, may_open, may_read, is_opened, left_of, data_in};
 ghost use Rattle.link_transfer.specs.Event.{event_of};
 ghost use Rattle.link_transfer.specs.Joiner.{IsJoinerAt};
@@ -14,7 +14,7 @@ ghost use Rattle.link_run.specs.NewRun.{IsNewRun};
 ghost use Rattle.link_wire.specs.declared.message.Message.{Message};
 ghost use Rattle.link_run_over_transfers.specs.Walk.{WalkEvent, told_of, data_size, has_open, head_at};
 ghost use Rattle.link_run_over_transfers.specs.Telling.{HeadComes, Tells, inner_events, inner_head};
-ghost use Rattle.link_run_over_transfers.specs.WalkRun.{Steps, Strides, TakesMessages, at, EndsAtHead, TellsHead, TellsEnd, may_go_on, may_follow, stage_by};
+ghost use Rattle.link_run_over_transfers.specs.WalkRun.{Steps, Strides, TakesMessages, at, EndsAtRefusedHead, TellsHead, TellsEnd, may_go_on, may_follow, stage_by};
 
 use crate::consumer::{Consumer, EventView};
 use crate::head::{HeadView, is_last};
@@ -101,9 +101,12 @@ impl<R: InDevice, W: OutDevice, E: OutDevice, C: Consumer> Stages<Session<R>, W,
 }
 
 impl<C: Consumer> Walker<C> {
-    /// Takes a message. If it is a segment with data at hand, this data is taken too, and so are
-    /// the inner segments after it. If it has no data, and the tool is not told of all heads, the
-    /// quiet messages after it are passed over.
+    /// Takes the head of a message, and more if it is at hand.
+    ///
+    /// After the head of a segment, takes the segment's data at hand. If this is all of its data,
+    /// takes the inner segments after it too. After a message without data, passes over the quiet
+    /// messages, unless the tool is told of all heads. After the head of a stray segment with data,
+    /// takes no more.
     #[inline(always)]
     fn stride_message<R: InDevice, W: OutDevice, E: OutDevice>(
         &mut self,
@@ -137,8 +140,8 @@ impl<C: Consumer> Walker<C> {
         taken
     }
 
-    /// Takes the step of this stage, and returns what comes next. Of data it takes at most `piece`
-    /// bytes.
+    /// Takes the step of this stage, and returns what comes next. The step takes at most `piece`
+    /// bytes of data.
     #[inline(always)]
     fn advance<R: InDevice, W: OutDevice, E: OutDevice>(
         &mut self,
@@ -228,11 +231,11 @@ impl<C: Consumer> Walker<C> {
         input: &Input<Session<R>, W, E>,
         writers: &mut Writers<W, E>,
     ) -> Next<Stage>
-        requires totals { SegmentTotalsFit self.old.message }
+        requires totals { IfSegmentItemsHaveTotals self.old.message }
         requires opened { IsTrue (is_opened (feed_of input.now)) }
         ensures fits { IsTrue (may_follow result (feed_of input.now)) }
         ensures stops { (C.telling options.now).manner.goes_on ≡ false
-            → EndsAtHead W.state E.state offset fault writers.old writers.new result }
+            → EndsAtRefusedHead W.state E.state offset fault writers.old writers.new result }
         ensures goes_on { (taken : List Message) (events : List WalkEvent)
             → (C.telling options.now).manner.goes_on ≡ true → IsJoinerAt self.old.joiner taken
             → refusal taken (event_of (message_of self.old.message)) ≡ Some fault
@@ -266,7 +269,7 @@ impl<C: Consumer> Walker<C> {
         input: &Input<Session<R>, W, E>,
         writers: &mut Writers<W, E>,
     ) -> Next<Stage>
-        requires totals { SegmentTotalsFit self.old.message }
+        requires totals { IfSegmentItemsHaveTotals self.old.message }
         requires opened { IsTrue (is_opened (feed_of input.now)) }
         ensures joiner { self.new.joiner ≡ self.old.joiner }
         ensures fits { IsTrue (may_follow result (feed_of input.now)) }
@@ -319,7 +322,8 @@ impl<C: Consumer> Walker<C> {
         Next::Stage(stage_by(None, input.left()))
     }
 
-    /// Reads a piece of the open transfer's data, of at most `piece` bytes.
+    /// Reads a piece of the open transfer's data, of at most `piece` bytes. `last` is whether their
+    /// segment is the last of the transfer.
     //
     // Not inlined: most strides begin with a message, and the code for them should not share its
     // registers with this.
@@ -345,7 +349,8 @@ impl<C: Consumer> Walker<C> {
         }
     }
 
-    /// Takes the next `size` bytes of the open transfer's data, which are at hand.
+    /// Takes the next `size` bytes of the open transfer's data, which are at hand. `last` is
+    /// whether their segment is the last of the transfer.
     #[inline(always)]
     fn take_loaded<R: InDevice, W: OutDevice, E: OutDevice>(
         &mut self,
@@ -411,8 +416,8 @@ impl<C: Consumer> Walker<C> {
         Next::Stage(Stage::Message)
     }
 
-    /// Tells the consumer of an inner segment of the open transfer: of its head, if it is told of
-    /// every head, and of its data.
+    /// Tells the consumer of an inner segment of the open transfer. A consumer that is told of
+    /// every head is told of the head and the data, and any other consumer only of the data.
     ///
     /// `self.message` must have no items. It may be overwritten with the message of the segment.
     #[inline(always)]
@@ -460,7 +465,7 @@ impl<C: Consumer> Walker<C> {
         writers: &mut Writers<W, E>,
         consumer: &mut C,
     ) -> Result<(), IoFault>
-        requires { SegmentTotalsFit message.now }
+        requires { IfSegmentItemsHaveTotals message.now }
         ensures { (id : ℕ) (before : List WalkEvent)
             → message_of message.now ≡ inner_segment id (length bytes.now)
             → (C.telling options.now).manner.all_heads ≡ true
@@ -480,7 +485,8 @@ impl<C: Consumer> Walker<C> {
         consumer.event(options, EventView::Inner { head, bytes }, writers)
     }
 
-    /// Ends the run after a stream that ends between two messages, and returns the status.
+    /// Ends the run after a stream that ends between two messages, and returns the status. If a
+    /// transfer is still open, the consumer is told so before.
     #[inline(never)]
     fn finish<W: OutDevice, E: OutDevice>(
         &mut self,

@@ -5,7 +5,7 @@ use Rattle.link_wire.specs.declared.message.SegmentHead.{SegmentHead}
 use Rattle.link_transfer.specs.declared.joiner.Turn.TheVariants.{Continue}
 use Rattle.link_session_rules.specs.Assigned.{item_type}
 use Rattle.link_session_rules.specs.Flags.{item_flags, segment_flags}
-use Rattle.link_session_rules.specs.{Heads.{HeadWithJudgement, newest}, Endings.rejects_type, Kept.inner_head}
+use Rattle.link_session_rules.specs.{Heads.{HeadWithOrder, newest}, Endings.rejects_type, Kept.inner_head}
 use Rattle.link_session_rules.specs.Lengths.{peer_segment, peer_transfer, segments_of}
 use Rattle.link_session_rules.specs.MessageRules.{broken_rules}
 use Rattle.link_session_rules.specs.Remembered.{IsMessageHistoryAt, AreEndingsAt, next_since, so_far_of}
@@ -21,7 +21,7 @@ use Rattle.link_session_rules.proofs.Since.{next_same, session_then, keepalives_
 abbrev pub inner : (id size : ℕ) → SegmentHead
 inner id size = record { flags = 0; id = id; items = record { items = [] }; length = size }
 
-module _ (id size : ℕ) (before : List HeadWithJudgement) where
+module _ (id size : ℕ) (before : List HeadWithOrder) where
   pub inner_kept : (limits : PeerLimits) (endings : Endings) → limits.segment ≡ None
       → limits.transfer ≡ None → AreEndingsAt endings (newest before)
       → endings.rejected ≡ false → broken_rules limits before (inner_head id size) ≡ []

@@ -1,13 +1,13 @@
 -- The segments of the transfer that began last, with one more head.
 use Rattle.std.proofs.Common.{◌≡◌, List, [], ◌∷◌, ◌++◌, Option, Some, None, option_map, refl, ap}
 use Rattle.link_wire.specs.declared.message.SegmentHead.{SegmentHead}
-use Rattle.link_session_rules.specs.Heads.{HeadWithJudgement, segment_of}
+use Rattle.link_session_rules.specs.Heads.{HeadWithOrder, segment_of}
 use Rattle.link_session_rules.specs.Lengths.{earlier_of, joined, segments_back, segments_of}
 use Rattle.link_session_rules.specs.Remembered.{so_far_of}
 use Rattle.link_session_rules.specs.declared.lengths.TransferSoFar.{TransferSoFar}
 use Rattle.link_session_rules.proofs.Pushes.{newest-push}
 
-pub segments_of-push : (before : List HeadWithJudgement) (head : HeadWithJudgement)
+pub segments_of-push : (before : List HeadWithOrder) (head : HeadWithOrder)
     → segments_of (before ++ head ∷ [])
     ≡ joined (segment_of head.message) (earlier_of head.turn (segments_of before))
     (segments_of before)

@@ -11,7 +11,7 @@ use Rattle.link_session_rules.specs.Answers.{ack_length, answer_order}
 use Rattle.link_session_rules.specs.Endings.{rejects_type, after_reject, term_order}
 use Rattle.link_session_rules.specs.Assigned.{item_type, reject_known, reason}
 use Rattle.link_session_rules.specs.Flags.{item_flags, segment_flags, term_flags}
-use Rattle.link_session_rules.specs.Heads.{HeadWithJudgement, newest, segment_of}
+use Rattle.link_session_rules.specs.Heads.{HeadWithOrder, newest, segment_of}
 use Rattle.link_session_rules.specs.Kept.{AreAnswerRulesKept, AreSegmentRulesKept}
 use Rattle.link_session_rules.specs.Lengths.{peer_segment, peer_transfer}
 use Rattle.link_session_rules.specs.{MessageRules.broken_rules, NodeIds.{node_id, node_name}}
@@ -29,8 +29,8 @@ pub none_if : {A : Type 0} (value : Option A) → is_some value ≡ false → va
 none_if None is = refl
 none_if (Some value) is = cc
 
-module _ (limits : PeerLimits) (before : List HeadWithJudgement) (turn : Option Turn) where
-  abbrev head_of : Message → HeadWithJudgement
+module _ (limits : PeerLimits) (before : List HeadWithOrder) (turn : Option Turn) where
+  abbrev head_of : Message → HeadWithOrder
   head_of message = record { message = message; fault = None; turn = turn }
 
   abbrev pub IsKept : Message → Type 0

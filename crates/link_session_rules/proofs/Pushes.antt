@@ -2,14 +2,14 @@
 use Rattle.std.proofs.Common.{◌≡◌, List, [], ◌∷◌, ◌++◌, ◌||◌, reverse, is_some, Option, Bool, Some, None, refl, sym, ◌∙◌}
 use Rattle.std.{specs.{Option.option_or, List.list_any}, proofs.Math.Bool.or_comm, proofs.lemmas.List.{map_push, reverse-append, Recursion.or_push}}
 use Rattle.link_wire.specs.declared.message.Message.{Message}
-use Rattle.link_session_rules.specs.{Heads.{HeadWithJudgement, messages_of, newest, is_sess_init, parameters_of}, Session.first_parameters}
+use Rattle.link_session_rules.specs.{Heads.{HeadWithOrder, messages_of, newest, is_sess_init, parameters_of}, Session.first_parameters}
 
-pub messages_of-push : (before : List HeadWithJudgement) (head : HeadWithJudgement)
+pub messages_of-push : (before : List HeadWithOrder) (head : HeadWithOrder)
     → messages_of (before ++ head ∷ []) ≡ messages_of before ++ head.message ∷ []
-messages_of-push before head = map_push (λ (head : HeadWithJudgement). head.message) before head
+messages_of-push before head = map_push (λ (head : HeadWithOrder). head.message) before head
 
 -- their messages, the newest first
-pub newest_then : (before : List HeadWithJudgement) (head : HeadWithJudgement)
+pub newest_then : (before : List HeadWithOrder) (head : HeadWithOrder)
     → newest (before ++ head ∷ []) ≡ head.message ∷ newest before
 newest_then before head =
     rw (messages_of-push before head) (reverse-append (messages_of before) (head.message ∷ []))
@@ -37,7 +37,7 @@ any_reverse test (first ∷ more) =
     )
     (or_comm (list_any test more) (test first))
 
-pub initiated_by : (before : List HeadWithJudgement)
+pub initiated_by : (before : List HeadWithOrder)
     → is_some (first_parameters (messages_of before)) ≡ list_any is_sess_init (newest before)
 initiated_by before =
     any_first (messages_of before) ∙ sym (any_reverse is_sess_init (messages_of before))

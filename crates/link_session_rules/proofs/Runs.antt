@@ -1,4 +1,4 @@
--- Runs of transfer IDs, the newest first, and the ends of each run that are kept.
+-- Runs of IDs, the newest first, and the ends of each run of IDs, which are kept.
 use Rattle.std.proofs.Common.{◌≡◌, ℕ, zero, suc, ◌+◌, ◌≤◌, Bool, true, false, not, ◌&&◌, ◌||◌, ◌==◌, nat_le, List, [], ◌∷◌, map, take, Some, if◌then◌else◌, refl, sym, ap, arith}
 use Rattle.std.{specs.List.list_any, proofs.Math.Seq.take-nil}
 use Rattle.link_wire.specs.declared.message.Message.{Message}
@@ -6,7 +6,7 @@ use Rattle.link_session_rules.specs.TransferIds.{ids_of, is_in, last_runs, runs_
 use Rattle.link_session_rules.specs.Remembered.{AreTransferIdsAt, between, contains, end_of, ends_of, kept_runs, kept_with}
 use Rattle.link_session_rules.specs.declared.transfer_ids.{IdRun.IdRun, TransferIds.TransferIds}
 
--- ---- the IDs of a run are those between its ends
+-- ---- the IDs of a run of IDs are those between its ends
 
 record IsRun (id last : ℕ) (older : List ℕ) : Type 0 where
   below : end_of last older ≤ last

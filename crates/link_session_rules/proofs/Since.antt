@@ -3,7 +3,7 @@ use Rattle.std.proofs.Common.{◌≡◌, ℕ, suc, ◌+◌, Bool, true, false, n
 use Rattle.std.specs.{Bool.then_some, List.{list_any, position_or_len}}
 use Rattle.std.proofs.lemmas.List.Recursion.{or_push}
 use Rattle.link_wire.specs.declared.message.Message.{Message}
-use Rattle.link_session_rules.specs.Heads.{HeadWithJudgement, messages_of, is_sess_init, is_keepalive, disables_keepalive, is_of_transfer}
+use Rattle.link_session_rules.specs.Heads.{HeadWithOrder, messages_of, is_sess_init, is_keepalive, disables_keepalive, is_of_transfer}
 use Rattle.link_session_rules.specs.{Session.keepalive, Remembered.{since_of, next_since, keepalives_of, session_of}}
 use Rattle.link_session_rules.specs.declared.session.Since.{Since}
 use Rattle.link_session_rules.specs.declared.session.Since.TheVariants.{Neither, First, Both}
@@ -69,7 +69,7 @@ pub next_same : (state : Since) → next_since state false false ≡ state
 next_same Neither = refl
 next_same others = refl
 
-module _ (before : List HeadWithJudgement) (head : HeadWithJudgement) where
+module _ (before : List HeadWithOrder) (head : HeadWithOrder) where
   pub session_then : (session : Since) → session ≡ session_of (messages_of before)
       → next_since session (is_sess_init head.message) (is_of_transfer head.message)
       ≡ session_of (messages_of (before ++ head ∷ []))
@@ -92,7 +92,7 @@ rule_by_cases : (disabled sent sends : Bool)
     ≡ rule_in (if not disabled then Neither else since_first sent) sends
 rule_by_cases disabled sent sends = grind arith
 
-pub keepalive_by : (before : List HeadWithJudgement) (message : Message)
+pub keepalive_by : (before : List HeadWithOrder) (message : Message)
     → keepalive before message ≡ rule_in (keepalives_of (messages_of before)) (is_keepalive message)
 unfolding keepalive
 keepalive_by before message = rule_by_cases _ _ (is_keepalive message)

@@ -12,14 +12,14 @@ use Rattle.link_session_rules.specs.declared.rule.MessageRule.TheVariants.{ItemT
 -- ---- item-type
 
 -- Whether the type of an item of this message is neither assigned nor for private use. Types from
--- 8000 on are for private use. The only assigned type is that of Transfer Length items, in segments
--- (sections 8.3 and 8.4).
+-- 8000 (hexadecimal) on are for private use. The only assigned type is the one of Transfer Length
+-- items, in segments (sections 8.3 and 8.4).
 abbrev pub is_unassigned : Message → (type : ℕ) → Bool
 is_unassigned (Segment segment) type = nat_lt type 0x8000 && not (type == transfer_length)
 is_unassigned message type = nat_lt type 0x8000
 
 -- item-type: an extension item has a type that is assigned, or for private use (sections 8.3 and
--- 8.4). The first item of another type counts, by its number from 0.
+-- 8.4). The first item of another type is reported, by its number from 0.
 unfoldable pub item_type : Message → Option MessageRule
 item_type message =
     option_map (λ (numbered : ℕ × Item). ItemType numbered.0 numbered.1.kind)
@@ -33,8 +33,8 @@ item_type message =
 abbrev pub does_not_fit : (reason : ℕ) → (is_known : Bool) → Bool
 does_not_fit reason is_known = if is_known then reason == 1 else ((reason == 2) || (reason == 3))
 
--- reject-known: a MSG_REJECT with reason 01 rejects a type other than 01 to 07, and one with reason
--- 02 or 03 a type from 01 to 07 (section 5.1.2)
+-- reject-known: a MSG_REJECT with reason 01 rejects a type other than 01 to 07, and a MSG_REJECT
+-- with reason 02 or 03 rejects a type from 01 to 07 (section 5.1.2)
 unfoldable pub reject_known : Message → Option MessageRule
 reject_known (MsgReject reason header) =
     if does_not_fit reason (nat_le 1 header && nat_le header 7)
@@ -45,13 +45,15 @@ reject_known message = None
 -- ---- reason
 
 -- Whether a reason of this message is neither assigned (sections 8.6 to 8.8) nor for private use.
--- Reasons from f0 on are for private use.
+-- The assigned reasons are 1 to 3 in a MSG_REJECT, 0 to 6 in an XFER_REFUSE, and 0 to 5 in a
+-- SESS_TERM, which is the last case. Reasons from f0 (hexadecimal) on are for private use.
 abbrev pub is_other_reason : Message → (reason : ℕ) → Bool
-is_other_reason (MsgReject reason header) other = (other == 0) || (nat_le 4 other && nat_lt other 0xf0)
-is_other_reason (Refuse reason id) other = nat_le 7 other && nat_lt other 0xf0
-is_other_reason message other = nat_le 6 other && nat_lt other 0xf0
+is_other_reason (MsgReject own header) reason =
+    (reason == 0) || (nat_le 4 reason && nat_lt reason 0xf0)
+is_other_reason (Refuse own id) reason = nat_le 7 reason && nat_lt reason 0xf0
+is_other_reason message reason = nat_le 6 reason && nat_lt reason 0xf0
 
--- the rule that a message breaks with such a reason, or `None`
+-- the rule that a message breaks by this reason, if it is neither assigned nor for private use
 abbrev pub if_other_reason : Message → (reason : ℕ) → Option MessageRule
 if_other_reason message reason =
     if is_other_reason message reason then Some (Reason (type_of message) reason) else None

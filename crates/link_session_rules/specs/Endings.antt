@@ -5,7 +5,7 @@ use Rattle.std.specs.List.{list_any}
 use Rattle.link_wire.specs.declared.message.Message.{Message}
 use Rattle.link_wire.specs.declared.message.Message.TheVariants as message
 use Rattle.link_rules_shared.specs.declared.level.{Level.Level, Level.TheVariants.{Must, Should}}
-use Rattle.link_session_rules.specs.Heads.{HeadWithJudgement, newest, held, type_of, is_sess_init, is_sess_term, begins_transfer}
+use Rattle.link_session_rules.specs.Heads.{HeadWithOrder, newest, held, type_of, is_sess_init, is_sess_term, begins_transfer}
 use Rattle.link_session_rules.specs.declared.rule.MessageRule.{MessageRule}
 use Rattle.link_session_rules.specs.declared.rule.MessageRule.TheVariants.{AfterReject, TermOrder}
 
@@ -24,8 +24,8 @@ begins_anew message = is_sess_init message || (is_sess_term message || begins_tr
 abbrev pub follows : (older : List Message) → Message → Bool
 follows older message = list_any rejects_type older
 
--- whether a message comes after such a MSG_REJECT, and begins or ends a session, or begins a
--- transfer
+-- whether a message comes after a MSG_REJECT that says that a type is unknown, and begins or ends a
+-- session, or begins a transfer
 abbrev pub begins_after : (older : List Message) → Message → Bool
 begins_after older message = list_any rejects_type older && begins_anew message
 
@@ -33,7 +33,7 @@ begins_after older message = list_any rejects_type older && begins_anew message
 -- 5.1.2 and 8.5). The first message after it that begins or ends a session, or begins a transfer,
 -- breaks the rule as a `must`. The first message after it, if it is no such message, breaks the
 -- rule as a `should`. All others keep it.
-unfoldable pub after_reject : List HeadWithJudgement → Message → Option MessageRule
+unfoldable pub after_reject : List HeadWithOrder → Message → Option MessageRule
 after_reject before message =
     let older = newest before in
     if begins_after older message && not (held begins_after older)
@@ -52,6 +52,6 @@ is_late older message =
 
 -- term-order: a session has one SESS_TERM, and its first SESS_INIT does not come after it (section
 -- 6.1). `newest before` is all messages before, the newest first.
-unfoldable pub term_order : List HeadWithJudgement → Message → Option MessageRule
+unfoldable pub term_order : List HeadWithOrder → Message → Option MessageRule
 term_order before message =
     if is_late (newest before) message then Some (TermOrder (type_of message)) else None

@@ -34,7 +34,7 @@ contact_flags contact =
     if has_other_flags can_tls contact.flags then Some (ContactFlags contact.flags) else None
 
 -- item-flags: an extension item has no flag but CRITICAL (sections 4.8 and 5.2.5). The first item
--- with another flag counts, by its number from 0.
+-- with another flag is reported, by its number from 0.
 unfoldable pub item_flags : Message → Option MessageRule
 item_flags message =
     option_map (λ (numbered : ℕ × Item). ItemFlags numbered.0 numbered.1.flags)

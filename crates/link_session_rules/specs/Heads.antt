@@ -10,7 +10,7 @@ use Rattle.link_transfer.specs.declared.{fault.OrderFault.OrderFault, joiner.Tur
 use Rattle.link_session_rules.specs.declared.{head.JudgedHeadView.JudgedHeadView, session.Parameters.Parameters}
 
 -- the head of a message, with the judgement of its order
-pub record HeadWithJudgement : Type 0 where
+pub record HeadWithOrder : Type 0 where
   pub message : Message
   -- why the message is not in order, if it is not
   pub fault : Option OrderFault
@@ -18,20 +18,20 @@ pub record HeadWithJudgement : Type 0 where
   pub turn : Option Turn
 
 -- the judged head that a view shows
-abbrev pub viewed_head : JudgedHeadView → HeadWithJudgement
+abbrev pub viewed_head : JudgedHeadView → HeadWithOrder
 viewed_head head =
     record { message = message_of head.message.now; fault = head.fault; turn = head.turn }
 
 -- the messages of these heads, in order
-abbrev pub messages_of : List HeadWithJudgement → List Message
+abbrev pub messages_of : List HeadWithOrder → List Message
 messages_of heads = map (λ head. head.message) heads
 
 -- the messages of these heads, the newest first
-abbrev pub newest : List HeadWithJudgement → List Message
+abbrev pub newest : List HeadWithOrder → List Message
 newest heads = reverse (messages_of heads)
 
 -- Whether a test passed at one of these messages, which are in a list, the newest first. The test
--- takes the messages before one, in such a list, and that message.
+-- judges a message. Its first argument is the list of the messages before this message.
 abbrev pub held : (List Message → Message → Bool) → List Message → Bool
 held test [] = false
 held test (latest ∷ older) = test older latest || held test older
@@ -70,7 +70,8 @@ abbrev pub is_keepalive : Message → Bool
 is_keepalive Keepalive = true
 is_keepalive message = false
 
--- whether a SESS_INIT says that its sender sends no KEEPALIVE: its interval is 0 (section 4.7)
+-- whether a message is a SESS_INIT with interval 0, which says that its sender sends no KEEPALIVE
+-- (section 4.7)
 abbrev pub disables_keepalive : Message → Bool
 disables_keepalive (SessInit interval segment_mru transfer_mru node items) = interval == 0
 disables_keepalive message = false

@@ -6,7 +6,7 @@ use Rattle.link_transfer.specs.Announced.{announced_of}
 use Rattle.link_transfer.specs.declared.announcement.Announced.{Announced}
 use Rattle.link_transfer.specs.declared.{announcement.Announced.TheVariants.Total, joiner.Turn.Turn}
 use Rattle.link_transfer.specs.declared.joiner.Turn.TheVariants as turn
-use Rattle.link_session_rules.specs.Heads.{HeadWithJudgement, segment_of}
+use Rattle.link_session_rules.specs.Heads.{HeadWithOrder, segment_of}
 use Rattle.link_session_rules.specs.declared.rule.MessageRule.{MessageRule}
 use Rattle.link_session_rules.specs.declared.rule.MessageRule.TheVariants.{PeerSegment, PeerTransferAnnounced, PeerTransferLength}
 
@@ -26,30 +26,29 @@ peer_segment (Some limit) message = option_and_then (if_longer limit) (segment_o
 -- ---- the segments of a transfer (section 5.2.2), the newest first
 
 -- The segments before a segment in its transfer, by the turn of this segment: none for the first
--- one. The result is `None` for a stray segment. `so_far` are the segments of the transfer that
--- began last.
+-- one. The result is `None` for a stray segment. `so_far` are the segments of the latest transfer.
 abbrev pub earlier_of : Option Turn → (so_far : List SegmentHead) → Option (List SegmentHead)
 earlier_of (Some (turn.Begin abandoned last)) so_far = Some []
 earlier_of (Some (turn.Continue last)) so_far = Some so_far
 earlier_of _ so_far = None
 
--- The segments of the transfer that began last, after one more message. A segment with `earlier`
--- ones is put before them. A stray segment, or another message, changes nothing.
+-- The segments of the latest transfer, after one more message. `so_far` is this list before the
+-- message. `earlier` are the segments before this segment in its transfer, and the new list begins
+-- with this segment. A stray segment, or another message, changes nothing.
 abbrev pub joined : Option SegmentHead → (earlier : Option (List SegmentHead))
     → (so_far : List SegmentHead) → List SegmentHead
 joined (Some segment) (Some earlier) so_far = segment ∷ earlier
 joined _ earlier so_far = so_far
 
--- the segments of the transfer that began last, by all heads so far, in a list that has the newest
--- first
-abbrev pub segments_back : List HeadWithJudgement → List SegmentHead
+-- the segments of the latest transfer, the newest first; the heads have the newest first, too
+abbrev pub segments_back : List HeadWithOrder → List SegmentHead
 segments_back [] = []
 segments_back (head ∷ older) =
     let so_far = segments_back older in
     joined (segment_of head.message) (earlier_of head.turn so_far) so_far
 
--- the segments of the transfer that began last, by all heads in order
-abbrev pub segments_of : List HeadWithJudgement → List SegmentHead
+-- the segments of the latest transfer, the newest first; the heads are in order
+abbrev pub segments_of : List HeadWithOrder → List SegmentHead
 segments_of heads = segments_back (reverse heads)
 
 -- the first segment of a transfer that has `segment` and the segments before it: the last of
@@ -72,13 +71,14 @@ if_passed limit before size =
 abbrev pub size_of : List SegmentHead → ℕ
 size_of segments = sum_by (λ (segment : SegmentHead). segment.length) segments
 
--- this rule, if the segment that breaks it is the first of its transfer, so none is earlier
+-- this rule, if a segment is the first of its transfer; `None` if there are earlier segments
 abbrev pub if_first : List SegmentHead → MessageRule → Option MessageRule
 if_first [] rule = Some rule
 if_first (previous ∷ earlier) rule = None
 
--- The rule that a segment breaks, if its transfer exceeds the limit: with its first segment if it
--- announces too much, or else with the segment whose data exceeds the limit.
+-- The rule that a segment breaks, if its transfer exceeds the limit. If the first segment announces
+-- too much, only the first segment breaks it. Otherwise it is broken by the segment whose data
+-- takes the transfer past the limit.
 abbrev pub if_exceeded : (limit : ℕ) → Announced → SegmentHead → (earlier : List SegmentHead)
     → Option MessageRule
 if_exceeded limit (Total total) segment earlier =
@@ -91,8 +91,9 @@ if_exceeded limit _ segment earlier = if_passed limit (size_of earlier) segment.
 abbrev pub announced_first : SegmentHead → (earlier : List SegmentHead) → Announced
 announced_first segment earlier = announced_of (first_segment segment earlier).items.items
 
--- the rule that a segment with this turn breaks after these heads; a stray one breaks none
-abbrev pub exceeded : (limit : ℕ) → List HeadWithJudgement → Option Turn → SegmentHead
+-- The rule of the peer's Transfer MRU, if a segment with this turn breaks it after these heads. A
+-- stray segment does not break it.
+abbrev pub exceeded : (limit : ℕ) → List HeadWithOrder → Option Turn → SegmentHead
     → Option MessageRule
 exceeded limit before turn segment =
     option_and_then
@@ -102,7 +103,7 @@ exceeded limit before turn segment =
 -- peer-transfer: a transfer is no longer than the peer's Transfer MRU (section 4.6), if this is
 -- known. A transfer breaks it once: with the length that it announces, or else with the segment
 -- that takes its data beyond the limit.
-unfoldable pub peer_transfer : (limit : Option ℕ) → List HeadWithJudgement → HeadWithJudgement
+unfoldable pub peer_transfer : (limit : Option ℕ) → List HeadWithOrder → HeadWithOrder
     → Option MessageRule
 peer_transfer None before head = None
 peer_transfer (Some limit) before head =

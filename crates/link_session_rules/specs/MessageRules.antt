@@ -4,7 +4,7 @@ use Rattle.link_session_rules.specs.Answers.{ack_length, answer_order}
 use Rattle.link_session_rules.specs.Assigned.{item_type, reject_known, reason}
 use Rattle.link_session_rules.specs.Endings.{after_reject, term_order}
 use Rattle.link_session_rules.specs.Flags.{item_flags, segment_flags, term_flags}
-use Rattle.link_session_rules.specs.Heads.{HeadWithJudgement}
+use Rattle.link_session_rules.specs.Heads.{HeadWithOrder}
 use Rattle.link_session_rules.specs.Lengths.{peer_segment, peer_transfer}
 use Rattle.link_session_rules.specs.NodeIds.{node_id, node_name}
 use Rattle.link_session_rules.specs.Session.{order, before_session, keepalive, keepalive_interval}
@@ -16,7 +16,7 @@ use Rattle.link_session_rules.specs.declared.rule.MessageRule.TheVariants as rul
 
 -- for each rule of messages, in order, how a message after these heads breaks it; `None` if it
 -- keeps the rule
-abbrev pub judged_rules : PeerLimits → (before : List HeadWithJudgement) → HeadWithJudgement
+abbrev pub judged_rules : PeerLimits → (before : List HeadWithOrder) → HeadWithOrder
     → List (Option MessageRule)
 judged_rules limits before head =
     node_id head.message ∷ item_flags head.message ∷ order before head ∷ before_session before head.message
@@ -29,7 +29,7 @@ judged_rules limits before head =
     ∷ term_order before head.message ∷ []
 
 -- the rules that a message after these heads breaks, in order
-unfoldable pub broken_rules : PeerLimits → (before : List HeadWithJudgement) → HeadWithJudgement
+unfoldable pub broken_rules : PeerLimits → (before : List HeadWithOrder) → HeadWithOrder
     → List MessageRule
 broken_rules limits before head = filter_map (λ judged. judged) (judged_rules limits before head)
 

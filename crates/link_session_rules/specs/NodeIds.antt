@@ -57,15 +57,15 @@ is_ipn_part part = is_unjudged part || (are_two part || are_three_at (first_of 0
 
 -- ---- node-id
 
--- whether the part after the colon has the syntax of its scheme; only those of dtn and ipn are
--- judged
+-- whether the part after the colon has the syntax of its scheme; it is judged only in the schemes
+-- dtn and ipn
 abbrev pub is_of_scheme : (scheme part : List ℕ) → Bool
 is_of_scheme scheme part =
     if is_word (codes "dtn") scheme then is_dtn_part part
     else (if is_word (codes "ipn") scheme then is_ipn_part part else true)
 
--- whether bytes are a URI, by the offset of their first colon: a scheme, the colon, and more bytes
--- or none (RFC 3986 sections 2 and 3)
+-- Whether bytes are a URI with the syntax of its scheme: a scheme, a colon, and more bytes or none
+-- (RFC 3986 sections 2 and 3). The first argument is the offset of the first colon.
 abbrev pub is_uri_at : Option ℕ → List ℕ → Bool
 is_uri_at None node = false
 is_uri_at (Some colon) node =
@@ -87,12 +87,14 @@ node_id message = None
 
 -- ---- node-name
 
--- whether the last of two or three numbers is 0, in one digit or more (section 4.2.5.1.2)
+-- Whether the last of two or three numbers is 0, in one digit or more (section 4.2.5.1.2). After
+-- two numbers, there is no second point, so the second `after_mark` leaves all bytes.
 abbrev pub ends_in_zero : List ℕ → Bool
 ends_in_zero part = list_all (λ digit. digit == 0x30) (after_mark 0x2e (after_mark 0x2e part))
 
 -- How strictly a name is forbidden as a node ID, or `None` if it may be one. RFC 9171 names nodes
--- by the schemes dtn and ipn (section 4.2.5.1).
+-- by the schemes dtn and ipn (section 4.2.5.1), but not by dtn:none. A dtn name is judged by its
+-- demux, and an ipn name by its last number. An ipn name whose part begins with `!` is not judged.
 unfoldable pub name_level : (scheme part : List ℕ) → Option Level
 name_level scheme part =
     if is_word (codes "dtn") scheme
@@ -113,8 +115,9 @@ abbrev pub if_level : (size : ℕ) → Option Level → Option MessageRule
 if_level size None = None
 if_level size (Some level) = Some (NodeName size level)
 
--- node-name: a node ID that keeps node-id names a node (RFC 9174 section 4.6): the administrative
--- endpoint of the node (RFC 9171 sections 4.2.5.1 and 4.2.5.2)
+-- node-name: a node ID names a node (RFC 9174 section 4.6). It is the ID of the administrative
+-- endpoint of the node (RFC 9171 sections 4.2.5.1 and 4.2.5.2). A node ID that breaks the rule
+-- node-id is not judged.
 unfoldable pub node_name : Message → Option MessageRule
 node_name (SessInit interval segment_mru transfer_mru node items) =
     if_level (length node.items) (name_level_at (first_of 0x3a node.items) node.items)

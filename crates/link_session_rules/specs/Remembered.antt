@@ -5,7 +5,7 @@ use Rattle.std.specs.List.{list_any, after_first, cons_option}
 use Rattle.link_wire.specs.declared.message.{SegmentHead.SegmentHead, Message.Message}
 use Rattle.link_session_rules.specs.Answers.{last_ack, last_refused, is_acked_since}
 use Rattle.link_session_rules.specs.Endings.{rejects_type, follows, begins_after}
-use Rattle.link_session_rules.specs.Heads.{HeadWithJudgement, messages_of, newest, held, is_sess_init, is_sess_term, is_keepalive, disables_keepalive, is_of_transfer}
+use Rattle.link_session_rules.specs.Heads.{HeadWithOrder, messages_of, newest, held, is_sess_init, is_sess_term, is_keepalive, disables_keepalive, is_of_transfer}
 use Rattle.link_session_rules.specs.Lengths.{segments_of, first_segment, size_of}
 use Rattle.link_session_rules.specs.Session.{first_parameters}
 use Rattle.link_session_rules.specs.TransferIds.{last_runs, jumps}
@@ -25,7 +25,7 @@ end_of id (next ∷ more) = end_of next more
 abbrev pub between : (first last id : ℕ) → Bool
 between first last id = nat_le first id && nat_le id last
 
--- whether an ID is in the run
+-- whether an ID is in this run of IDs
 abbrev pub contains : (id : ℕ) → IdRun → Bool
 contains id run = between run.first run.last id
 
@@ -34,12 +34,12 @@ abbrev pub ends_of : List ℕ → Option IdRun
 ends_of [] = None
 ends_of (last ∷ older) = Some (record { first = end_of last older; last = last })
 
--- the runs that are kept, the newest first
+-- the runs of IDs that are kept, the newest first
 abbrev pub kept_runs : TransferIds → List IdRun
 kept_runs ids = cons_option ids.last ids.earlier.items
 
--- The runs that are kept after one more ID, the newest first: the run with this ID, and at most
--- `count` runs before it.
+-- The runs of IDs that are kept after one more ID, the newest first. The next ID extends the newest
+-- run of IDs. Any other ID begins a run of IDs, and at most `count` runs of IDs before it stay.
 abbrev pub kept_with : (id count : ℕ) → List IdRun → List IdRun
 kept_with id count [] = record { first = id; last = id } ∷ []
 kept_with id count (run ∷ kept) =
@@ -47,22 +47,24 @@ kept_with id count (run ∷ kept) =
     then record { first = run.first; last = id } ∷ kept
     else record { first = id; last = id } ∷ take count (run ∷ kept)
 
--- `ids` is what is kept after exactly these messages, which are in a list, the newest first. If it
--- has no last run, it has no earlier ones.
+-- `ids` is what is kept after exactly these messages, the newest first. It is the ends of the
+-- latest runs of IDs, and whether an ID was new and not the next one. Without a last run of IDs,
+-- there are no earlier ones.
 pub record AreTransferIdsAt (ids : TransferIds) (older : List Message) : Type 0 where
   pub runs : map Some (kept_runs ids) ≡ map ends_of (last_runs older)
   pub none : ids.last ≡ None → ids.earlier.items ≡ []
   pub jumped : ids.jumped ≡ held jumps older
 
--- `answers` are the last XFER_ACK and XFER_REFUSE of exactly these messages, which are in a list,
--- the newest first. `acked_since` is read only after an XFER_REFUSE.
+-- `answers` are the latest XFER_ACK and XFER_REFUSE of exactly these messages, which are in a list,
+-- the newest first. If an XFER_REFUSE came, `acked_since` is whether an XFER_ACK with the ID of the
+-- latest XFER_REFUSE came after it. Otherwise `acked_since` may be true or false.
 pub record AreAnswersAt (answers : Answers) (older : List Message) : Type 0 where
   pub ack : answers.ack ≡ last_ack older
   pub refused : answers.refused ≡ last_refused older
   pub acked_since : (id : ℕ) → answers.refused ≡ Some id
       → answers.acked_since ≡ is_acked_since id older
 
--- the endings are those of exactly these messages, the newest first
+-- `endings` is what is kept after exactly these messages, which are in a list, the newest first
 pub record AreEndingsAt (endings : Endings) (older : List Message) : Type 0 where
   pub terminated : endings.terminated ≡ list_any is_sess_term older
   pub rejected : endings.rejected ≡ list_any rejects_type older
@@ -84,7 +86,7 @@ next_since Neither is_first is_second = if is_first then First else Neither
 next_since First is_first is_second = if is_second then Both else First
 next_since Both is_first is_second = Both
 
--- whether a SESS_INIT disabled KEEPALIVEs, and whether one was sent since
+-- whether a SESS_INIT disabled KEEPALIVEs, and whether a KEEPALIVE was sent since
 abbrev pub keepalives_of : List Message → Since
 keepalives_of messages = since_of disables_keepalive is_keepalive messages
 
@@ -105,7 +107,7 @@ so_far_of (segment ∷ earlier) = Some (record {
 })
 
 -- the history keeps what the rules need of exactly these heads
-pub record IsMessageHistoryAt (history : MessageHistory) (heads : List HeadWithJudgement) : Type 0 where
+pub record IsMessageHistoryAt (history : MessageHistory) (heads : List HeadWithOrder) : Type 0 where
   pub parameters : history.parameters ≡ first_parameters (messages_of heads)
   pub session : history.session ≡ session_of (messages_of heads)
   pub keepalives : history.keepalives ≡ keepalives_of (messages_of heads)

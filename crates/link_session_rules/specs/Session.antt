@@ -6,7 +6,7 @@ use Rattle.link_wire.specs.declared.message.Message.{Message}
 use Rattle.link_wire.specs.declared.message.Message.TheVariants as message
 use Rattle.link_transfer.specs.declared.fault.{OrderFault.OrderFault, OrderFault.TheVariants.SecondSessInit}
 use Rattle.link_rules_shared.specs.declared.level.{Level.Level, Level.TheVariants.{Must, Should}}
-use Rattle.link_session_rules.specs.Heads.{HeadWithJudgement, messages_of, is_sess_init, is_keepalive, disables_keepalive, parameters_of, is_of_transfer}
+use Rattle.link_session_rules.specs.Heads.{HeadWithOrder, messages_of, is_sess_init, is_keepalive, disables_keepalive, parameters_of, is_of_transfer}
 use Rattle.link_session_rules.specs.declared.{rule.MessageRule.MessageRule, session.Parameters.Parameters}
 use Rattle.link_session_rules.specs.declared.rule.MessageRule.TheVariants.{Order, BeforeSession, Keepalive, KeepaliveInterval}
 
@@ -39,21 +39,22 @@ changes_session earlier message =
     are_other (first_parameters earlier) (parameters_of message)
     && list_any is_of_transfer (after_sess_init earlier)
 
--- how strictly a fault is forbidden: a second SESS_INIT that changes nothing breaks no MUST
+-- How strictly a fault is forbidden. A second SESS_INIT breaks a MUST only if it changes the
+-- parameters after a transfer or an answer came.
 abbrev pub order_level : List Message → Message → OrderFault → Level
 order_level earlier message SecondSessInit =
     if changes_session earlier message then Must else Should
 order_level earlier message _ = Must
 
 -- order: a message is in order (sections 4, 4.7, 5.1.2, 5.2, 5.2.1, 5.2.2 and 6.1)
-unfoldable pub order : List HeadWithJudgement → HeadWithJudgement → Option MessageRule
+unfoldable pub order : List HeadWithOrder → HeadWithOrder → Option MessageRule
 order before head =
     option_map (λ fault. Order fault (order_level (messages_of before) head.message fault)) head.fault
 
 -- ---- messages after SESS_INIT
 
--- the type byte of an XFER_ACK, XFER_REFUSE or KEEPALIVE (section 4.5), which a sender sends only
--- after its SESS_INIT
+-- The type byte of an XFER_ACK, XFER_REFUSE or KEEPALIVE (section 4.5). A sender sends these only
+-- after its SESS_INIT. `None` for any other message.
 abbrev pub type_after_sess_init : Message → Option ℕ
 type_after_sess_init (message.Ack flags id size) = Some codes.xfer_ack
 type_after_sess_init (message.Refuse reason id) = Some codes.xfer_refuse
@@ -62,7 +63,7 @@ type_after_sess_init _ = None
 
 -- before-session: an XFER_ACK, XFER_REFUSE or KEEPALIVE comes after a SESS_INIT (sections 4 and
 -- 5.1.2)
-unfoldable pub before_session : List HeadWithJudgement → Message → Option MessageRule
+unfoldable pub before_session : List HeadWithOrder → Message → Option MessageRule
 before_session before message =
     if is_some (first_parameters (messages_of before))
     then None
@@ -90,7 +91,7 @@ after_disabling messages = after_first disables_keepalive messages
 
 -- keepalive: no KEEPALIVE comes after a SESS_INIT whose interval is 0 (sections 4.7 and 5.1.1).
 -- Only the first such KEEPALIVE breaks the rule. Another SESS_INIT changes nothing.
-unfoldable pub keepalive : List HeadWithJudgement → Message → Option MessageRule
+unfoldable pub keepalive : List HeadWithOrder → Message → Option MessageRule
 keepalive before message =
     let earlier = messages_of before in
     if is_keepalive message

@@ -9,15 +9,15 @@ use Rattle.link_rules_shared.specs.declared.unread.Unread.{Unread}
 use Rattle.link_session_rules.specs.declared.rule.TransferRule.{TransferRule}
 use Rattle.link_session_rules.specs.declared.rule.TransferRule.TheVariants.{Bundle, NotRead}
 
--- whether there is an offset, and it is that of byte number `at`
+-- whether there is an offset, and it is `at`
 abbrev pub is_offset : Option ℕ → (at : ℕ) → Bool
 is_offset None at = false
 is_offset (Some offset) at = offset == at
 
--- Whether data with a fault at an offset may be a bundle that this toolkit does not read. `unread`
--- has the offsets of the first heads of the kinds that it reads nowhere: no later one is reached.
--- Another endpoint scheme, a long dtn name and many blocks exceed limits of this toolkit. RFC 9171
--- permits items of indefinite length (section 4.1), but for the byte strings of data and of check
+-- Whether data with a fault at offset `byte` may be a bundle that this toolkit does not read. Three
+-- faults are limits of this toolkit: another endpoint scheme, a long dtn name and many blocks. Some
+-- kinds of heads are read nowhere, and `unread` says where the first head of each kind is. RFC 9171
+-- permits items of indefinite length (section 4.1), except the byte strings of data and of check
 -- values (sections 4.3.2 and 4.2.2). Its appendix B permits tag 55799 before a bundle, and tag 24
 -- before the data of a block.
 abbrev pub may_be_bundle : Unread → BundleFault → (byte : ℕ) → Bool
@@ -34,7 +34,8 @@ may_be_bundle unread WrongDataKind byte =
 may_be_bundle unread WrongCheckKind byte = is_offset unread.item byte
 may_be_bundle unread _ byte = false
 
--- bundle: the data of a transfer is a bundle. not-read: this toolkit reads the bundle.
+-- bundle: the data of a transfer is a bundle. Data that may be a bundle that this toolkit does not
+-- read breaks the rule not-read in place of this one.
 unfoldable pub data_rule : (bytes : List ℕ) → Result BundleInfo (BundleFault × ℕ)
     → Option TransferRule
 data_rule bytes (Ok info) = None

@@ -69,7 +69,8 @@ transfer_level_of rule.LengthOfOneSegment = Should
 transfer_level_of (rule.Bundle fault byte) = Must
 transfer_level_of (rule.NotRead fault byte) = Should
 
--- what is kept of the first segment
+-- what is kept of the first segment of a transfer: the length that it announces, and whether it is
+-- the only segment
 abbrev pub opening_of : SegmentHead → Opening
 opening_of first = record {
   announced = announced_of first.items.items;

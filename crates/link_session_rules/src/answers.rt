@@ -20,14 +20,14 @@ pub(crate) struct Ack {
     ends: bool,
 }
 
-/// The last answers.
+/// The latest answers so far.
 #[derive(Clone, Copy, Debug, PartialEq, Eq)]
 pub(crate) struct Answers {
-    /// The last XFER_ACK.
+    /// The latest XFER_ACK.
     ack: Option<Ack>,
-    /// The ID of the last XFER_REFUSE.
+    /// The ID of the latest XFER_REFUSE.
     refused: Option<u64>,
-    /// Whether an XFER_ACK of this ID came after it.
+    /// Whether an XFER_ACK of this ID came after the latest XFER_REFUSE.
     acked_since: bool,
 }
 
@@ -36,7 +36,7 @@ impl Answers {
     ghost use Rattle.std.specs.List.{list_any};
     ghost use Rattle.link_wire.specs.declared.message.Message.{Message};
     ghost use Rattle.link_wire.specs.MessageBuffer.{message_of};
-    ghost use Rattle.link_session_rules.specs.Heads.{HeadWithJudgement, newest, is_sess_init};
+    ghost use Rattle.link_session_rules.specs.Heads.{HeadWithOrder, newest, is_sess_init};
     ghost use Rattle.link_session_rules.specs.Answers.{is_acked, is_refused, has_ended, fault_of_later, answer_fault, answer_order, ack_length};
     ghost use Rattle.link_session_rules.specs.Remembered.{AreAnswersAt};
 
@@ -74,7 +74,7 @@ impl Answers {
         }
     }
 
-    /// Whether the last XFER_ACK has this ID.
+    /// Whether the latest XFER_ACK has this ID.
     fn is_acked(&self, id: u64) -> bool
         ensures { result ≡ is_acked self.now.ack id }
     {
@@ -84,7 +84,7 @@ impl Answers {
         }
     }
 
-    /// Whether the last XFER_ACK has this ID and END.
+    /// Whether the latest XFER_ACK has this ID and END.
     fn has_ended(&self, id: u64) -> bool
         ensures { result ≡ has_ended self.now.ack id }
     {
@@ -94,7 +94,7 @@ impl Answers {
         }
     }
 
-    /// Whether the last XFER_REFUSE has this ID.
+    /// Whether the latest XFER_REFUSE has this ID.
     fn is_refused(&self, id: u64) -> bool
         ensures { result ≡ is_refused self.now.refused id }
     {
@@ -104,8 +104,8 @@ impl Answers {
         }
     }
 
-    /// What is wrong with an XFER_ACK of this ID without START, by the answers before it, or
-    /// `None`.
+    /// What is wrong with an XFER_ACK of this ID without START, or `None`. The answers before it
+    /// decide.
     fn fault_of_later(&self, id: u64) -> Option<AnswerFault>
         ensures { result ≡ fault_of_later self.now.ack self.now.refused self.now.acked_since id }
     {
@@ -114,7 +114,7 @@ impl Answers {
             return Some(AnswerFault::NotTheLast);
         }
         if self.has_ended(id) {
-            return Some(AnswerFault::AfterEnd);
+            return Some(AnswerFault::AfterStop);
         }
         if is_refused && !self.acked_since {
             return Some(AnswerFault::AfterRefusal);
@@ -122,7 +122,8 @@ impl Answers {
         None
     }
 
-    /// What is wrong with the order of an answer, or `None`. Other messages are in order.
+    /// What is wrong with the order of an answer, or `None`. An XFER_REFUSE with reason
+    /// `NOT_ACCEPTABLE` is always in order, and so is each message that is no answer.
     #[tactic(auto, using(crate::proofs::Later::same_fault))]
     #[inline(always)]
     fn fault(&self, message: &MessageBuffer) -> Option<AnswerFault>
@@ -142,6 +143,7 @@ impl Answers {
     }
 
     /// The rule of the order of answers, if it is broken. `initiated` is whether a SESS_INIT came.
+    /// Answers before a SESS_INIT are not judged.
     #[tactic(auto, unfolding(crate::specs::Answers::answer_order))]
     #[inline(always)]
     pub(crate) fn answer_order(
@@ -149,7 +151,7 @@ impl Answers {
         initiated: bool,
         message: &MessageBuffer,
     ) -> Option<MessageRule>
-        ensures { (before : List HeadWithJudgement) → initiated ≡ list_any is_sess_init (newest before)
+        ensures { (before : List HeadWithOrder) → initiated ≡ list_any is_sess_init (newest before)
             → AreAnswersAt self.now (newest before)
             → result ≡ answer_order before (message_of message.now) }
     {
@@ -161,11 +163,12 @@ impl Answers {
         Some(MessageRule::AnswerOrder { id, fault })
     }
 
-    /// The rule of acknowledged lengths, if it is broken.
+    /// The rule of acknowledged lengths, if it is broken. An XFER_ACK without START breaks it if
+    /// the latest XFER_ACK has the same ID and a greater length.
     #[tactic(auto, unfolding(crate::specs::Answers::ack_length))]
     #[inline(always)]
     pub(crate) fn ack_length(&self, message: &MessageBuffer) -> Option<MessageRule>
-        ensures { (before : List HeadWithJudgement) → AreAnswersAt self.now (newest before)
+        ensures { (before : List HeadWithOrder) → AreAnswersAt self.now (newest before)
             → result ≡ ack_length before (message_of message.now) }
     {
         let Fields::Ack { flags, id, length } = message.fields else {

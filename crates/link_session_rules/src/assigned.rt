@@ -15,7 +15,8 @@ const PRIVATE_TYPE: u16 = 0x8000;
 /// The type of a Transfer Length item (RFC 9174 section 5.2.5.1).
 const TRANSFER_LENGTH: u16 = 1;
 
-/// Whether the type of an item of this message is neither assigned nor for private use.
+/// Whether the type of an item of this message is neither assigned nor for private use. The only
+/// assigned type is `TRANSFER_LENGTH`, in a segment.
 fn is_unassigned(message: &MessageBuffer, kind: u16) -> bool
     ensures { result ≡ is_unassigned (message_of message.now) kind }
 {
@@ -46,7 +47,8 @@ pub(crate) fn item_type(message: &MessageBuffer) -> Option<MessageRule>
     None
 }
 
-/// The rule of rejected types, if it is broken.
+/// The rule of rejected types, if it is broken. A type from 1 to 7 is known, so reason 1 (unknown)
+/// breaks it. For any other type, reason 2 (unsupported) or 3 (unexpected) breaks it.
 #[tactic(auto, unfolding(crate::specs::Assigned::reject_known))]
 pub(crate) fn reject_known(message: &MessageBuffer) -> Option<MessageRule>
     ensures { result ≡ reject_known (message_of message.now) }
@@ -69,7 +71,9 @@ fn is_other_reason(first: u8, reason: u8) -> bool
     first <= reason && reason < 0xf0
 }
 
-/// The rule of reasons, if it is broken.
+/// The rule of reasons, if it is broken. The assigned reasons are 1 to 3 in a MSG_REJECT, 0 to 6 in
+/// an XFER_REFUSE, and 0 to 5 in a SESS_TERM. The reason of a SESS_TERM that is a reply is not
+/// judged.
 #[tactic(auto, unfolding(crate::specs::Assigned::reason))]
 #[inline(always)]
 pub(crate) fn reason(message: &MessageBuffer) -> Option<MessageRule>

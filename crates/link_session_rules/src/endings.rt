@@ -41,7 +41,7 @@ impl Endings {
     ghost use Rattle.std.specs.List.{list_any};
     ghost use Rattle.link_wire.specs.declared.message.Message.{Message};
     ghost use Rattle.link_wire.specs.MessageBuffer.{message_of};
-    ghost use Rattle.link_session_rules.specs.Heads.{HeadWithJudgement, newest, is_sess_init};
+    ghost use Rattle.link_session_rules.specs.Heads.{HeadWithOrder, newest, is_sess_init};
     ghost use Rattle.link_session_rules.specs.Endings.{after_reject, term_order};
     ghost use Rattle.link_session_rules.specs.Remembered.{AreEndingsAt};
 
@@ -83,9 +83,13 @@ impl Endings {
     }
 
     /// The rule of messages after a MSG_REJECT that says that a type is unknown, if it is broken.
+    ///
+    /// The first message after it that begins or ends a session, or begins a transfer, breaks the
+    /// rule as a `must`. The first message after it breaks the rule as a `should`, if it does none
+    /// of this. All others keep the rule.
     #[tactic(auto, unfolding(crate::specs::Endings::after_reject))]
     pub(crate) fn after_reject(&self, message: &MessageBuffer) -> Option<MessageRule>
-        ensures { (before : List HeadWithJudgement) → AreEndingsAt self.now (newest before)
+        ensures { (before : List HeadWithOrder) → AreEndingsAt self.now (newest before)
             → result ≡ after_reject before (message_of message.now) }
     {
         if !self.rejected {
@@ -103,12 +107,13 @@ impl Endings {
         Some(MessageRule::AfterReject { kind, level })
     }
 
-    /// The rule of messages after a SESS_TERM, if it is broken.
+    /// The rule of messages after a SESS_TERM, if it is broken. Another SESS_TERM breaks it, and so
+    /// does the first SESS_INIT.
     ///
     /// `initiated` is whether a SESS_INIT came before the message.
     #[tactic(auto, unfolding(crate::specs::Endings::term_order))]
     pub(crate) fn term_order(&self, initiated: bool, message: &MessageBuffer) -> Option<MessageRule>
-        ensures { (before : List HeadWithJudgement) → initiated ≡ list_any is_sess_init (newest before)
+        ensures { (before : List HeadWithOrder) → initiated ≡ list_any is_sess_init (newest before)
             → AreEndingsAt self.now (newest before)
             → result ≡ term_order before (message_of message.now) }
     {

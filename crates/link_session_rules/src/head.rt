@@ -2,7 +2,7 @@
 
 ghost use Rattle.std.specs.Prelude.{◌≡◌};
 ghost use Rattle.link_wire.specs.Codes.{is_start, is_end};
-ghost use Rattle.link_wire.specs.Message.{TotalsFit};
+ghost use Rattle.link_wire.specs.Message.{HaveTotalsIfLengthItems};
 ghost use Rattle.link_wire.specs.MessageBuffer.{message_of, segment_items};
 ghost use Rattle.link_transfer.specs.Announced.{announced_of};
 ghost use Rattle.link_session_rules.specs.Heads.{items_of, type_of};
@@ -20,8 +20,8 @@ pub struct JudgedHeadView<'a> {
     pub turn: Option<Turn>,
 }
 
-/// The extension items of a message. A segment without START has none, whatever the buffer still
-/// has.
+/// The extension items of a message. A segment without START carries none, though the buffer may
+/// still hold the items of an earlier message.
 #[inline(always)]
 pub(crate) fn items_of(message: &MessageBuffer) -> &[Item]
     ensures { result.now ≡ items_of (message_of message.now) }
@@ -67,7 +67,7 @@ pub(crate) fn is_end(flags: u8) -> bool
 /// The length that a segment with these flags announces. Without START, it announces none.
 #[tactic(auto, unfolding(link_transfer::specs::Announced::announced_of))]
 pub(crate) fn announcement(message: &MessageBuffer, flags: u8) -> Announced
-    requires { TotalsFit message.now.items.items }
+    requires { HaveTotalsIfLengthItems message.now.items.items }
     ensures { result ≡ announced_of (segment_items flags message.now.items).items }
 {
     if is_start(flags) {

@@ -29,16 +29,16 @@ pub type BrokenRules = ArrayVec<MessageRule, RULES>;
 pub struct MessageHistory {
     /// The parameters of the first SESS_INIT.
     parameters: Option<Parameters>,
-    /// Whether a SESS_INIT came, and a transfer or an answer since.
+    /// Whether a SESS_INIT came, and whether a transfer or an answer came since.
     session: Since,
-    /// Whether KEEPALIVEs are disabled: a SESS_INIT had the interval 0 (RFC 9174 section 4.7). Then
-    /// whether one was sent since.
+    /// Whether a SESS_INIT disabled KEEPALIVEs by the interval 0 (RFC 9174 section 4.7), and
+    /// whether a KEEPALIVE was sent since.
     keepalives: Since,
     /// The IDs of the transfers that began.
     ids: TransferIds,
-    /// The last XFER_ACK and the last XFER_REFUSE.
+    /// The latest XFER_ACK and the latest XFER_REFUSE.
     answers: Answers,
-    /// The transfer that began last.
+    /// What is kept of the latest transfer.
     transfer: Option<TransferSoFar>,
     /// The ends of the session.
     endings: Endings,
@@ -46,9 +46,9 @@ pub struct MessageHistory {
 
 impl MessageHistory {
     ghost use Rattle.std.specs.Prelude.{◌≡◌, ℕ, true, false, List, [], ◌∷◌, ◌++◌};
-    ghost use Rattle.link_wire.specs.MessageBuffer.{SegmentTotalsFit, message_of};
+    ghost use Rattle.link_wire.specs.MessageBuffer.{IfSegmentItemsHaveTotals, message_of};
     ghost use Rattle.std.specs.List.{list_any};
-    ghost use Rattle.link_session_rules.specs.Heads.{HeadWithJudgement, viewed_head, newest, is_sess_init};
+    ghost use Rattle.link_session_rules.specs.Heads.{HeadWithOrder, viewed_head, newest, is_sess_init};
     ghost use Rattle.link_session_rules.specs.MessageRules.{broken_rules};
     ghost use Rattle.link_session_rules.specs.Kept.{AreAnswerRulesKept, AreSegmentRulesKept, inner_head};
     ghost use Rattle.link_session_rules.specs.Remembered.{IsMessageHistoryAt};
@@ -71,11 +71,12 @@ impl MessageHistory {
     /// Whether the next message is known to break no rule. This takes less time than `rules`.
     ///
     /// If it returns false, the message may break rules or not. It returns false for each
-    /// SESS_INIT, SESS_TERM and MSG_REJECT, which are rare.
+    /// SESS_INIT, SESS_TERM and MSG_REJECT, for each message that is out of order, and for each
+    /// message after a MSG_REJECT that says that a type is unknown. All of these are rare.
     #[inline(always)]
     pub fn keeps_rules(&self, limits: &PeerLimits, head: &JudgedHeadView<'_>) -> bool
-        requires { SegmentTotalsFit head.now.message.now }
-        ensures { (before : List HeadWithJudgement) → IsMessageHistoryAt self.now before → result ≡ true
+        requires { IfSegmentItemsHaveTotals head.now.message.now }
+        ensures { (before : List HeadWithOrder) → IsMessageHistoryAt self.now before → result ≡ true
             → broken_rules limits.now before (viewed_head head.now) ≡ [] }
     {
         if head.fault.is_some() {
@@ -97,17 +98,17 @@ impl MessageHistory {
     #[tactic(auto, using(crate::proofs::Pushes::initiated_by))]
     #[inline(always)]
     fn is_initiated(&self) -> bool
-        ensures { (before : List HeadWithJudgement) → IsMessageHistoryAt self.now before
+        ensures { (before : List HeadWithOrder) → IsMessageHistoryAt self.now before
             → result ≡ list_any is_sess_init (newest before) }
     {
         self.parameters.is_some()
     }
 
-    /// Whether the next message, an XFER_ACK, XFER_REFUSE or KEEPALIVE, breaks no rule of such
-    /// messages.
+    /// Whether the next message breaks no rule of XFER_ACKs, XFER_REFUSEs and KEEPALIVEs. It is one
+    /// of these.
     #[inline(always)]
     fn keeps_answer_rules(&self, message: &MessageBuffer) -> bool
-        ensures { (before : List HeadWithJudgement) → IsMessageHistoryAt self.now before → result ≡ true
+        ensures { (before : List HeadWithOrder) → IsMessageHistoryAt self.now before → result ≡ true
             → AreAnswerRulesKept before (message_of message.now) }
     {
         let initiated = self.is_initiated();
@@ -129,8 +130,8 @@ impl MessageHistory {
     /// Whether the next message breaks no rule of segments and of extension items.
     #[inline(always)]
     fn keeps_segment_rules(&self, limits: &PeerLimits, head: &JudgedHeadView<'_>) -> bool
-        requires { SegmentTotalsFit head.now.message.now }
-        ensures { (before : List HeadWithJudgement) → IsMessageHistoryAt self.now before → result ≡ true
+        requires { IfSegmentItemsHaveTotals head.now.message.now }
+        ensures { (before : List HeadWithOrder) → IsMessageHistoryAt self.now before → result ≡ true
             → AreSegmentRulesKept limits.now before (viewed_head head.now) }
     {
         let message = head.message;
@@ -163,8 +164,8 @@ impl MessageHistory {
     #[tactic(auto, unfolding(crate::specs::MessageRules::broken_rules))]
     #[inline(never)]
     pub fn rules(&self, limits: &PeerLimits, head: &JudgedHeadView<'_>) -> BrokenRules
-        requires { SegmentTotalsFit head.now.message.now }
-        ensures { (before : List HeadWithJudgement) → IsMessageHistoryAt self.now before
+        requires { IfSegmentItemsHaveTotals head.now.message.now }
+        ensures { (before : List HeadWithOrder) → IsMessageHistoryAt self.now before
             → result.items ≡ broken_rules limits.now before (viewed_head head.now) }
     {
         let message = head.message;
@@ -197,14 +198,14 @@ impl MessageHistory {
     /// Takes an inner segment with `length` bytes of data, if it is known to break no rule. Returns
     /// whether the segment was taken. If not, the history stays as it was.
     ///
-    /// If a limit of the peer is known, no segment is taken. The contract holds for any ID of the
-    /// segment.
+    /// The segment is not taken if a limit of the peer is known, if a MSG_REJECT said that a type
+    /// is unknown, or if no transfer began yet. The contract holds for any ID of the segment.
     #[tactic(auto, using(crate::proofs::Kept::none_if, crate::proofs::Inner::inner_kept))]
     #[inline(always)]
     pub fn take_inner(&mut self, limits: &PeerLimits, length: u64) -> bool
-        ensures kept { (id : ℕ) (before : List HeadWithJudgement) → IsMessageHistoryAt self.old before
+        ensures kept { (id : ℕ) (before : List HeadWithOrder) → IsMessageHistoryAt self.old before
             → result ≡ true → broken_rules limits.now before (inner_head id length) ≡ [] }
-        ensures taken { (id : ℕ) (before : List HeadWithJudgement) → IsMessageHistoryAt self.old before
+        ensures taken { (id : ℕ) (before : List HeadWithOrder) → IsMessageHistoryAt self.old before
             → result ≡ true → IsMessageHistoryAt self.new (before ++ inner_head id length ∷ []) }
         ensures same { result ≡ false → self.new ≡ self.old }
     {
@@ -230,8 +231,8 @@ impl MessageHistory {
     /// Takes the next message.
     #[inline(always)]
     pub fn take(&mut self, head: &JudgedHeadView<'_>)
-        requires { SegmentTotalsFit head.now.message.now }
-        ensures { (before : List HeadWithJudgement) → IsMessageHistoryAt self.old before
+        requires { IfSegmentItemsHaveTotals head.now.message.now }
+        ensures { (before : List HeadWithOrder) → IsMessageHistoryAt self.old before
             → IsMessageHistoryAt self.new (before ++ viewed_head head.now ∷ []) }
     {
         let message = head.message;

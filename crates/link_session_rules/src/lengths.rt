@@ -1,9 +1,9 @@
 //! Rules of the lengths of segments and transfers.
 
 ghost use Rattle.std.specs.Prelude.{◌≡◌, ℕ, ◌+◌, List, [], ◌∷◌, ◌++◌, option_map};
-ghost use Rattle.link_wire.specs.MessageBuffer.{message_of, SegmentTotalsFit};
+ghost use Rattle.link_wire.specs.MessageBuffer.{message_of, IfSegmentItemsHaveTotals};
 ghost use Rattle.link_wire.specs.declared.message.SegmentHead.{SegmentHead};
-ghost use Rattle.link_session_rules.specs.Heads.{HeadWithJudgement, viewed_head};
+ghost use Rattle.link_session_rules.specs.Heads.{HeadWithOrder, viewed_head};
 ghost use Rattle.link_session_rules.specs.Lengths.{peer_segment, if_passed, if_exceeded, earlier_of, segments_of, peer_transfer};
 ghost use Rattle.link_session_rules.specs.Remembered.{within_64_bits, so_far_of};
 
@@ -52,16 +52,17 @@ fn passed(limit: u64, before: Option<u64>, length: u64) -> Option<MessageRule>
 
 impl TransferSoFar {
     ghost use Rattle.std.specs.Prelude.{◌≡◌, List, [], ◌∷◌, Some};
-    ghost use Rattle.link_wire.specs.Message.{TotalsFit};
+    ghost use Rattle.link_wire.specs.Message.{HaveTotalsIfLengthItems};
     ghost use Rattle.link_wire.specs.MessageBuffer.{segment_items};
     ghost use Rattle.link_wire.specs.declared.message.SegmentHead.{SegmentHead};
     ghost use Rattle.link_transfer.specs.Announced.{announced_of};
     ghost use Rattle.link_session_rules.specs.Lengths.{if_exceeded, first_segment};
     ghost use Rattle.link_session_rules.specs.Remembered.{so_far_of};
 
-    /// A transfer that begins with this segment.
+    /// What is kept of a transfer after its first segment. `message` is this segment, with these
+    /// flags and `length` bytes of data.
     fn first(message: &MessageBuffer, flags: u8, length: u64) -> TransferSoFar
-        requires { TotalsFit message.now.items.items }
+        requires { HaveTotalsIfLengthItems message.now.items.items }
         ensures { (segment : SegmentHead) → segment.flags ≡ flags → segment.length ≡ length
             → segment.items ≡ segment_items flags message.now.items
             → Some result ≡ so_far_of (segment ∷ []) }
@@ -123,10 +124,11 @@ fn first_exceeded(limit: u64, announced: Announced, length: u64) -> Option<Messa
     }
 }
 
-/// What is kept of a transfer before its segment with this turn.
+/// What is kept of the transfer of a segment, before this segment. `turn` is what the segment does,
+/// and `so_far` is what is kept of the latest transfer.
 ///
-/// It is `Some(None)` for a first segment, and `None` for a stray one. `so_far` is the transfer
-/// that began last.
+/// The result is `Some(None)` for a first segment, since nothing is kept before it. It is `None`
+/// for a stray segment, which is in no transfer.
 #[inline(always)]
 fn earlier(turn: Option<Turn>, so_far: Option<TransferSoFar>) -> Option<Option<TransferSoFar>>
     ensures { (segments : List SegmentHead) → so_far ≡ so_far_of segments
@@ -139,7 +141,8 @@ fn earlier(turn: Option<Turn>, so_far: Option<TransferSoFar>) -> Option<Option<T
     }
 }
 
-/// The rule of the peer's Transfer MRU, if it is broken. `so_far` is the transfer that began last.
+/// The rule of the peer's Transfer MRU, if it is broken. `limit` is this MRU, if it is known, and
+/// `so_far` is what is kept of the latest transfer.
 #[tactic(auto, unfolding(crate::specs::Lengths::peer_transfer))]
 #[inline(always)]
 pub(crate) fn peer_transfer(
@@ -147,8 +150,8 @@ pub(crate) fn peer_transfer(
     so_far: Option<TransferSoFar>,
     head: &JudgedHeadView<'_>,
 ) -> Option<MessageRule>
-    requires { SegmentTotalsFit head.now.message.now }
-    ensures { (before : List HeadWithJudgement) → so_far ≡ so_far_of (segments_of before)
+    requires { IfSegmentItemsHaveTotals head.now.message.now }
+    ensures { (before : List HeadWithOrder) → so_far ≡ so_far_of (segments_of before)
         → result ≡ peer_transfer limit before (viewed_head head.now) }
 {
     let limit = limit?;
@@ -161,14 +164,15 @@ pub(crate) fn peer_transfer(
     }
 }
 
-/// The transfer that began last, after one more message.
+/// What is kept of the latest transfer, after one more message. `so_far` is this before the
+/// message. A stray segment, or another message, changes nothing.
 #[inline(always)]
 pub(crate) fn so_far_after(
     so_far: Option<TransferSoFar>,
     head: &JudgedHeadView<'_>,
 ) -> Option<TransferSoFar>
-    requires { SegmentTotalsFit head.now.message.now }
-    ensures { (before : List HeadWithJudgement) → so_far ≡ so_far_of (segments_of before)
+    requires { IfSegmentItemsHaveTotals head.now.message.now }
+    ensures { (before : List HeadWithOrder) → so_far ≡ so_far_of (segments_of before)
         → result ≡ so_far_of (segments_of (before ++ viewed_head head.now ∷ [])) }
 {
     let Fields::Segment {

@@ -121,7 +121,7 @@ fn is_uri(node: &[u8]) -> bool
     }
 }
 
-/// The rule of the syntax of node IDs, if it is broken.
+/// The rule of the syntax of node IDs, if it is broken. An empty node ID keeps it.
 #[tactic(auto, unfolding(crate::specs::NodeIds::node_id))]
 pub(crate) fn node_id(message: &MessageBuffer) -> Option<MessageRule>
     ensures { result ≡ node_id (message_of message.now) }
@@ -138,7 +138,8 @@ pub(crate) fn node_id(message: &MessageBuffer) -> Option<MessageRule>
     })
 }
 
-/// Whether the last of two or three numbers is 0.
+/// Whether the last of two or three numbers is 0. After two numbers, there is no second point, so
+/// the second `after_mark` leaves all bytes.
 fn ends_in_zero(part: &[u8]) -> bool
     ensures { result ≡ ends_in_zero part.now }
 {
@@ -146,8 +147,12 @@ fn ends_in_zero(part: &[u8]) -> bool
     last.iter().all(|digit| *digit == b'0')
 }
 
-/// The level of the rule that forbids a node ID, or `None` if no rule does. The node ID has the
-/// syntax of its scheme; `part` is what follows the colon.
+/// How strictly a name is forbidden as a node ID, or `None` if it may be one. The name keeps the
+/// syntax of its scheme, and `part` is what follows the colon.
+///
+/// A dtn name is judged by its demux, and dtn:none names no node. An ipn name is allowed if its
+/// last number is 0, and is not judged if `part` begins with `!`. Schemes other than dtn and ipn
+/// name no node.
 #[tactic(auto, unfolding(crate::specs::NodeIds::name_level))]
 fn name_level(scheme: &[u8], part: &[u8]) -> Option<Level>
     ensures { result ≡ name_level scheme.now part.now }
@@ -164,7 +169,7 @@ fn name_level(scheme: &[u8], part: &[u8]) -> Option<Level>
     Some(Level::Should)
 }
 
-/// The rule of the names of nodes, if it is broken.
+/// The rule of the names of nodes, if it is broken. A node ID that is no URI is not judged.
 #[tactic(auto, unfolding(crate::specs::NodeIds::node_name))]
 pub(crate) fn node_name(message: &MessageBuffer) -> Option<MessageRule>
     ensures { result ≡ node_name (message_of message.now) }

@@ -23,14 +23,15 @@ pub struct Opening {
 
 impl Opening {
     ghost use Rattle.std.specs.Prelude.{◌≡◌};
-    ghost use Rattle.link_wire.specs.Message.{TotalsFit};
+    ghost use Rattle.link_wire.specs.Message.{HaveTotalsIfLengthItems};
     ghost use Rattle.link_wire.specs.MessageBuffer.{segment_items};
     ghost use Rattle.link_wire.specs.declared.message.SegmentHead.{SegmentHead};
     ghost use Rattle.link_session_rules.specs.TransferRules.{opening_of, length_item, length_differs, length_of_one_segment, broken_transfer_rules};
 
-    /// What the rules need of a first segment with these flags.
+    /// What the rules need of the first segment of a transfer. `message` is this segment, with
+    /// these flags.
     pub fn of(message: &MessageBuffer, flags: u8) -> Opening
-        requires { TotalsFit message.now.items.items }
+        requires { HaveTotalsIfLengthItems message.now.items.items }
         ensures { (first : SegmentHead) → first.flags ≡ flags
             → first.items ≡ segment_items flags message.now.items
             → result ≡ opening_of first }
@@ -66,7 +67,7 @@ impl Opening {
         }
     }
 
-    /// The rule of announced lengths, if it is broken.
+    /// The rule of announced lengths, if a transfer with `length` bytes of data breaks it.
     #[tactic(auto, unfolding(crate::specs::TransferRules::length_differs))]
     fn length_differs(&self, length: u64) -> Option<TransferRule>
         ensures { (first : SegmentHead) → self.now ≡ opening_of first

@@ -7,16 +7,17 @@ use link_transfer::OrderFault;
 /// What is wrong with the order of an XFER_ACK or XFER_REFUSE (RFC 9174 sections 5.2.3 and 5.2.4).
 #[derive(Clone, Copy, Debug, PartialEq, Eq)]
 pub enum AnswerFault {
-    /// An XFER_ACK without START has neither the ID of the last XFER_ACK nor that of the last
+    /// An XFER_ACK without START has neither the ID of the latest XFER_ACK nor the ID of the latest
     /// XFER_REFUSE.
     NotTheLast,
-    /// An XFER_ACK with START has the ID of the last XFER_ACK.
+    /// An XFER_ACK with START has the ID of the latest XFER_ACK.
     StartRepeats,
-    /// An XFER_ACK without START has the ID of the last XFER_ACK, which has END.
-    AfterEnd,
-    /// An XFER_ACK without START has the ID of the last XFER_REFUSE, and no other had it since.
+    /// An XFER_ACK without START has the ID of the latest XFER_ACK, which has END.
+    AfterStop,
+    /// An XFER_ACK without START has the ID of the latest XFER_REFUSE, and no XFER_ACK with this ID
+    /// came since.
     AfterRefusal,
-    /// An XFER_REFUSE has the ID of the last XFER_ACK, which has END.
+    /// An XFER_REFUSE has the ID of the latest XFER_ACK, which has END.
     RefusedAfterEnd,
 }
 

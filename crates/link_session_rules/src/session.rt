@@ -3,7 +3,7 @@
 ghost use Rattle.std.specs.Prelude.{◌≡◌, List, [], ◌∷◌, ◌++◌};
 ghost use Rattle.link_wire.specs.MessageBuffer.{message_of};
 ghost use Rattle.link_wire.specs.declared.message.Message.{Message};
-ghost use Rattle.link_session_rules.specs.Heads.{HeadWithJudgement, viewed_head, messages_of, is_sess_init, is_of_transfer, is_keepalive, disables_keepalive, parameters_of};
+ghost use Rattle.link_session_rules.specs.Heads.{HeadWithOrder, viewed_head, messages_of, is_sess_init, is_of_transfer, is_keepalive, disables_keepalive, parameters_of};
 ghost use Rattle.link_session_rules.specs.Remembered.{next_since, session_of, keepalives_of};
 ghost use Rattle.link_session_rules.specs.Session.{order, order_level, changes_session, before_session, keepalive, keepalive_interval, type_after_sess_init, first_parameters, are_other};
 
@@ -59,8 +59,8 @@ pub(crate) struct Parameters {
     transfer_mru: u64,
 }
 
-/// Whether a SESS_INIT came, and a transfer or an answer since. `session` is this state before the
-/// message.
+/// Whether a SESS_INIT came, and whether a transfer or an answer came since. `session` is this
+/// state before the message, and the result is the state after it.
 #[tactic(auto, using(crate::proofs::Since::next_same))]
 #[inline(always)]
 pub(crate) fn session_after(session: Since, message: &MessageBuffer) -> Since
@@ -76,8 +76,8 @@ pub(crate) fn session_after(session: Since, message: &MessageBuffer) -> Since
     }
 }
 
-/// Whether a SESS_INIT disabled KEEPALIVEs, and one was sent since. `keepalives` is this state
-/// before the message.
+/// Whether a SESS_INIT disabled KEEPALIVEs, and whether a KEEPALIVE was sent since. `keepalives` is
+/// this state before the message, and the result is the state after it.
 #[tactic(auto, using(crate::proofs::Since::next_same))]
 #[inline(always)]
 pub(crate) fn keepalives_after(keepalives: Since, message: &MessageBuffer) -> Since
@@ -139,11 +139,12 @@ fn is_keepalive(message: &MessageBuffer) -> bool
     matches!(message.fields, Fields::Keepalive)
 }
 
-/// The rule of KEEPALIVEs, if it is broken.
+/// The rule of KEEPALIVEs, if it is broken. `keepalives` says whether a SESS_INIT disabled them,
+/// and whether one was sent since. Only the first one that is sent since breaks the rule.
 #[tactic(auto, using(crate::proofs::Since::keepalive_by, crate::proofs::Since::then_some_rule_in))]
 #[inline(always)]
 pub(crate) fn keepalive(keepalives: Since, message: &MessageBuffer) -> Option<MessageRule>
-    ensures { (before : List HeadWithJudgement) → keepalives ≡ keepalives_of (messages_of before)
+    ensures { (before : List HeadWithOrder) → keepalives ≡ keepalives_of (messages_of before)
         → result ≡ keepalive before (message_of message.now) }
 {
     match keepalives {
@@ -152,7 +153,8 @@ pub(crate) fn keepalive(keepalives: Since, message: &MessageBuffer) -> Option<Me
     }
 }
 
-/// The rule of the interval of KEEPALIVEs, if it is broken.
+/// The rule of the interval of KEEPALIVEs, if it is broken. The interval is in seconds, and 0
+/// disables KEEPALIVEs.
 #[tactic(auto, unfolding(crate::specs::Session::keepalive_interval))]
 pub(crate) fn keepalive_interval(message: &MessageBuffer) -> Option<MessageRule>
     ensures { result ≡ keepalive_interval (message_of message.now) }
@@ -167,8 +169,9 @@ pub(crate) fn keepalive_interval(message: &MessageBuffer) -> Option<MessageRule>
     }
 }
 
-/// Whether a message changes the parameters of a session in which a transfer or an answer came.
-/// `parameters` are those of the first SESS_INIT.
+/// Whether a message changes the parameters of a session in which a transfer or an answer came. The
+/// first SESS_INIT before the message set `parameters`. `session` says whether a transfer or an
+/// answer came since.
 #[tactic(auto, using(crate::proofs::Changes::changes_by))]
 fn changes_session(parameters: &Option<Parameters>, session: Since, message: &MessageBuffer) -> bool
     ensures { (earlier : List Message) → parameters.now ≡ first_parameters earlier
@@ -178,8 +181,11 @@ fn changes_session(parameters: &Option<Parameters>, session: Since, message: &Me
     matches!(session, Since::Both) && are_other(parameters, &parameters_of(message))
 }
 
-/// The level of a fault of the order of messages. `parameters` are those of the first SESS_INIT
-/// before the message, and `session` is what came since.
+/// The level of a fault of the order of messages. A second SESS_INIT is a `should`, unless it
+/// changes the parameters after a transfer or an answer came. Any other fault is a `must`.
+///
+/// The first SESS_INIT before the message set `parameters`. `session` says whether a transfer or an
+/// answer came since.
 fn order_level(
     parameters: &Option<Parameters>,
     session: Since,
@@ -198,7 +204,8 @@ fn order_level(
     }
 }
 
-/// The rule of the order of messages, if it is broken.
+/// The rule of the order of messages, if it is broken. The first SESS_INIT before the message set
+/// `parameters`. `session` says whether a transfer or an answer came since.
 #[tactic(auto, unfolding(crate::specs::Session::order))]
 #[inline(always)]
 pub(crate) fn order(
@@ -206,7 +213,7 @@ pub(crate) fn order(
     session: Since,
     head: &JudgedHeadView<'_>,
 ) -> Option<MessageRule>
-    ensures { (before : List HeadWithJudgement) → parameters.now ≡ first_parameters (messages_of before)
+    ensures { (before : List HeadWithOrder) → parameters.now ≡ first_parameters (messages_of before)
         → session ≡ session_of (messages_of before)
         → result ≡ order before (viewed_head head.now) }
 {
@@ -215,8 +222,8 @@ pub(crate) fn order(
     Some(MessageRule::Order { fault, level })
 }
 
-/// The type byte (RFC 9174 section 4.5) of an XFER_ACK, XFER_REFUSE or KEEPALIVE, which a sender
-/// sends only after its SESS_INIT.
+/// The type byte (RFC 9174 section 4.5) of an XFER_ACK, XFER_REFUSE or KEEPALIVE. A sender sends
+/// these only after its SESS_INIT. `None` for any other message.
 fn type_after_sess_init(message: &MessageBuffer) -> Option<u8>
     ensures { result ≡ type_after_sess_init (message_of message.now) }
 {
@@ -228,15 +235,15 @@ fn type_after_sess_init(message: &MessageBuffer) -> Option<u8>
     }
 }
 
-/// The rule of messages before a SESS_INIT, if it is broken. `parameters` are those of the first
-/// SESS_INIT, if one came before the message.
+/// The rule of messages before a SESS_INIT, if it is broken. `parameters` is `None` if no SESS_INIT
+/// came before the message.
 #[tactic(auto, unfolding(crate::specs::Session::before_session))]
 #[inline(always)]
 pub(crate) fn before_session(
     parameters: &Option<Parameters>,
     message: &MessageBuffer,
 ) -> Option<MessageRule>
-    ensures { (before : List HeadWithJudgement) → parameters.now ≡ first_parameters (messages_of before)
+    ensures { (before : List HeadWithOrder) → parameters.now ≡ first_parameters (messages_of before)
         → result ≡ before_session before (message_of message.now) }
 {
     if parameters.is_some() {

@@ -8,7 +8,12 @@ use crate::rule::TransferRule;
 use link_bundle_types::BundleFault;
 use link_rules_shared::Unread;
 
-/// Whether data with a fault at an offset may be a bundle that this toolkit does not read.
+/// Whether data with a fault at offset `byte` may be a bundle that this toolkit does not read.
+///
+/// It may be one if the fault is a limit of this toolkit (an endpoint scheme, a long dtn name or
+/// many blocks), or if the data begins with tag 55799. It may also be one if the fault is at a head
+/// of a kind that this toolkit reads nowhere. `unread` says where the first head of each such kind
+/// is.
 fn may_be_bundle(unread: &Unread, fault: BundleFault, byte: u64) -> bool
     ensures { result ≡ may_be_bundle unread.now fault byte }
 {

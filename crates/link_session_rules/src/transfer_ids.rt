@@ -13,10 +13,10 @@ use arrayvec::ArrayVec;
 use link_transfer::Turn;
 use link_wire::{Fields, MessageBuffer};
 
-/// How many runs are kept, beside the last one.
+/// How many runs of IDs are kept, beside the newest one.
 const EARLIER: usize = 63;
 
-/// A run of transfer IDs, each one more than the one before it.
+/// A run of IDs: transfer IDs, each one more than the one before it.
 #[derive(Clone, Copy, Debug, Default, PartialEq, Eq)]
 pub(crate) struct IdRun {
     first: u64,
@@ -27,7 +27,7 @@ impl IdRun {
     ghost use Rattle.std.specs.Prelude.{◌≡◌, ◌==◌, ◌+◌, ℕ, true};
     ghost use Rattle.link_session_rules.specs.Remembered.{contains};
 
-    /// A run of one ID.
+    /// A run of IDs with this ID alone.
     fn alone(id: u64) -> IdRun
         ensures { result ≡ record { first = id; last = id } }
     {
@@ -37,14 +37,14 @@ impl IdRun {
         }
     }
 
-    /// Whether an ID is in the run.
+    /// Whether an ID is in this run of IDs.
     fn contains(self, id: u64) -> bool
         ensures { result ≡ contains id self }
     {
         self.first <= id && id <= self.last
     }
 
-    /// Whether an ID is one more than the last of the run.
+    /// Whether an ID is one more than the last ID of this run of IDs.
     fn is_before(self, id: u64) -> bool
         ensures { result ≡ (id == self.last + 1) }
     {
@@ -55,15 +55,16 @@ impl IdRun {
 /// The IDs of the transfers that began, as far as the rules need them.
 #[derive(Debug, Drop)]
 pub(crate) struct TransferIds {
-    /// The last run.
+    /// The newest run of IDs.
     last: Option<IdRun>,
-    /// The runs before it, the newest first.
+    /// The runs of IDs before it, the newest first.
     earlier: ArrayVec<IdRun, EARLIER>,
     /// Whether an ID broke the rule of their order.
     jumped: bool,
 }
 
-/// Puts a run before the others. If there are then more than `EARLIER`, the oldest is dropped.
+/// Puts a run of IDs before the others. If there are then more than `EARLIER`, the oldest is
+/// dropped.
 #[cold]
 #[inline(never)]
 fn put_first(runs: &mut ArrayVec<IdRun, EARLIER>, run: IdRun)
@@ -73,7 +74,7 @@ fn put_first(runs: &mut ArrayVec<IdRun, EARLIER>, run: IdRun)
     runs.insert(0, run);
 }
 
-/// Whether an ID is in one of these runs.
+/// Whether an ID is in one of these runs of IDs.
 fn any_contains(runs: &[IdRun], id: u64) -> bool
     ensures { result ≡ list_any (contains id) runs.now }
 {
@@ -85,7 +86,7 @@ impl TransferIds {
     ghost use Rattle.std.specs.List.{list_any};
     ghost use Rattle.link_wire.specs.declared.message.Message.{Message};
     ghost use Rattle.link_wire.specs.MessageBuffer.{message_of};
-    ghost use Rattle.link_session_rules.specs.Heads.{HeadWithJudgement, newest, held, is_sess_init};
+    ghost use Rattle.link_session_rules.specs.Heads.{HeadWithOrder, newest, held, is_sess_init};
     ghost use Rattle.link_session_rules.specs.TransferIds.{is_in, last_runs, ids_of, skips, jumps, jumps_to, transfer_id, transfer_id_order};
     ghost use Rattle.link_session_rules.specs.Remembered.{AreTransferIdsAt, kept_runs, kept_with};
 
@@ -100,7 +101,7 @@ impl TransferIds {
         }
     }
 
-    /// Whether an ID is in one of the last runs.
+    /// Whether an ID is in one of the runs of IDs that are kept.
     #[tactic(auto, using(crate::proofs::Runs::contains_by))]
     #[inline(always)]
     fn contains(&self, id: u64) -> bool
@@ -113,7 +114,8 @@ impl TransferIds {
         }
     }
 
-    /// Whether an ID is not the next one, which is one more than the last ID, or 0 for the first.
+    /// Whether an ID is not the next one. The next ID is one more than the latest ID, or 0 if none
+    /// came yet.
     #[tactic(auto, using(crate::proofs::Runs::skips_by))]
     #[inline(always)]
     fn skips(&self, id: u64) -> bool
@@ -126,8 +128,10 @@ impl TransferIds {
         }
     }
 
-    /// Whether an ID is new and not the next one. `initiated` is whether a SESS_INIT came before
-    /// it.
+    /// Whether an ID is new and not the next one. It is new if it is in none of the latest 64 runs
+    /// of IDs.
+    ///
+    /// `initiated` is whether a SESS_INIT came before it. If none came, the result is false.
     #[inline(always)]
     fn jumps_to(&self, initiated: bool, id: u64) -> bool
         ensures { (older : List Message) → initiated ≡ list_any is_sess_init older
@@ -161,7 +165,8 @@ impl TransferIds {
         self.jumped || self.jumps_to(initiated, id)
     }
 
-    /// Takes an ID into the runs.
+    /// Takes an ID into the runs of IDs. The next ID extends the newest run of IDs. Any other ID
+    /// begins a new one. If more than `EARLIER` are then before it, the oldest is dropped.
     #[inline(always)]
     fn put(&mut self, id: u64)
         ensures runs { (self.old.last ≡ None → self.old.earlier.items ≡ [])
@@ -187,14 +192,15 @@ impl TransferIds {
     #[tactic(auto, unfolding(crate::specs::TransferIds::transfer_id))]
     #[inline(always)]
     pub(crate) fn transfer_id(&self, message: &MessageBuffer) -> Option<MessageRule>
-        ensures { (before : List HeadWithJudgement) → AreTransferIdsAt self.now (newest before)
+        ensures { (before : List HeadWithOrder) → AreTransferIdsAt self.now (newest before)
             → result ≡ transfer_id before (message_of message.now) }
     {
         let id = start_id(message)?;
         self.contains(id).then_some(MessageRule::TransferId { id })
     }
 
-    /// The rule of the order of transfer IDs, if it is broken.
+    /// The rule of the order of transfer IDs, if it is broken. Only the first transfer ID that
+    /// breaks it is reported.
     ///
     /// `initiated` is whether a SESS_INIT came before the message.
     #[tactic(auto, unfolding(crate::specs::TransferIds::transfer_id_order))]
@@ -204,7 +210,7 @@ impl TransferIds {
         initiated: bool,
         message: &MessageBuffer,
     ) -> Option<MessageRule>
-        ensures { (before : List HeadWithJudgement) → initiated ≡ list_any is_sess_init (newest before)
+        ensures { (before : List HeadWithOrder) → initiated ≡ list_any is_sess_init (newest before)
             → AreTransferIdsAt self.now (newest before)
             → result ≡ transfer_id_order before (message_of message.now) }
     {
@@ -217,7 +223,7 @@ impl TransferIds {
     }
 }
 
-/// The ID of the transfer that a segment with START begins.
+/// The ID of the transfer that a segment with START begins. `None` for any other message.
 fn start_id(message: &MessageBuffer) -> Option<u64>
     ensures { result ≡ start_id (message_of message.now) }
 {
@@ -237,7 +243,7 @@ fn abandoned_by(turn: Option<Turn>) -> Option<u64>
     }
 }
 
-/// The rule of transfers that begin while another is open, if it is broken.
+/// The rule of transfers that begin while one of another ID is open, if it is broken.
 #[tactic(auto, unfolding(crate::specs::TransferIds::interleaved))]
 #[inline(always)]
 pub(crate) fn interleaved(head: &JudgedHeadView<'_>) -> Option<MessageRule>

@@ -6,8 +6,8 @@ use Rattle.link_report.specs.declared.judgement.Judgement.TheVariants.{Good}
 use Rattle.link_report_blocks.specs.Blocks.{end_text}
 use Rattle.link_run.specs.{Run.no_texts, Writers.{on_output, AfterWrite}}
 use Rattle.link_run.specs.declared.writers.Writers.{Writers}
-use Rattle.link_run_over_bundle_files.specs.Bundles.{Packed}
-use Rattle.link_run_over_bundle_files.specs.Telling.{SoFar, none_yet, between, with_bytes, with_run, WritesRest}
+use Rattle.link_run_over_bundle_files.specs.Bundles.{BundleWithInfo}
+use Rattle.link_run_over_bundle_files.specs.Telling.{SoFar, none_yet, between, with_bytes, with_run, WritesRestOfTexts}
 use Rattle.link_run_over_bundle_files.proofs.Told.{told_after, told_then, told_part}
 use Rattle.link_run_judge.proofs.Counts.{on_ok}
 use Rattle.link_tool_blocks.specs.BlockLines.{block_lines}
@@ -15,7 +15,7 @@ use Rattle.link_tool_blocks.specs.Bundles.{whole_lines, bundle_lines, bundle_blo
 use Rattle.link_tool_blocks.specs.LineLaws.{no_lines}
 
 -- one more bundle, which has the number `n`
-lines_of_push : (number n : ℕ) (bundles : List Packed) (bundle : Packed)
+lines_of_push : (number n : ℕ) (bundles : List BundleWithInfo) (bundle : BundleWithInfo)
     → n ≡ number + length bundles
     → bundle_lines number (bundles ++ bundle ∷ []) ≡ bundle_lines number bundles
     ++ whole_lines n bundle
@@ -28,7 +28,7 @@ lines_of_push number n (first ∷ bundles) bundle is =
     rw (later, append_assoc (whole_lines number first)) refl
 
 -- between two bundles, the lines are those of the whole ones
-pub between_lines : (bundles : List Packed)
+pub between_lines : (bundles : List BundleWithInfo)
     → bundle_lines 0 bundles ++ block_lines (length bundles) [] ≡ bundle_lines 0 bundles
 between_lines bundles = rw (no_lines, append-nil) refl
 
@@ -72,15 +72,15 @@ module _ (before : SoFar) (run : List ℕ) (number : ℕ)
       {old new : Writers W E} where
     -- the bundle goes on
     pub told_on : {result : Result (Unit {0}) IoFault}
-        → WritesRest out_look report_look (on_output had) (on_output due) P old new result
-        → WritesRest out_look report_look (bundle_blocks_telling.texts before)
+        → WritesRestOfTexts out_look report_look (on_output had) (on_output due) P old new result
+        → WritesRestOfTexts out_look report_look (bundle_blocks_telling.texts before)
         (bundle_blocks_telling.texts (with_bytes before run)) P old new result
     told_on told = rw numbered at (told_after told (on_output front))
 
     -- the bundle is whole, and a writer failed in the lines of its blocks
     pub told_lost : {Q : Type 0} (info : BundleInfo) {fault : IoFault}
-        → WritesRest out_look report_look (on_output had) (on_output due) P old new (Err fault)
-        → WritesRest out_look report_look (bundle_blocks_telling.texts before)
+        → WritesRestOfTexts out_look report_look (on_output had) (on_output due) P old new (Err fault)
+        → WritesRestOfTexts out_look report_look (bundle_blocks_telling.texts before)
         (bundle_blocks_telling.texts (ended info)) Q old new (Err fault)
     told_lost info told =
         rw (all_lines info, ← numbered)
@@ -88,9 +88,9 @@ module _ (before : SoFar) (run : List ℕ) (number : ℕ)
 
     -- the bundle is whole, and has the line of its end
     pub told_whole : {Q : Type 0} (info : BundleInfo) {mid : Writers W E} {result : Result (Unit {0}) IoFault}
-        → WritesRest out_look report_look (on_output had) (on_output due) P old mid (Ok tt)
+        → WritesRestOfTexts out_look report_look (on_output had) (on_output due) P old mid (Ok tt)
         → AfterWrite out_look report_look mid new (on_output (end info)) result → Q
-        → WritesRest out_look report_look (bundle_blocks_telling.texts before)
+        → WritesRestOfTexts out_look report_look (bundle_blocks_telling.texts before)
         (bundle_blocks_telling.texts (ended info)) Q old new result
     told_whole info {result = result} told wrote known =
         rw (all_lines info, ← numbered)

@@ -10,7 +10,7 @@ use Rattle.link_run.specs.Run.{Texts, no_texts, ◌then◌}
 use Rattle.link_run.specs.Writers.{on_output, on_report, AfterWrite}
 use Rattle.link_run.specs.declared.writers.Writers.{Writers}
 use Rattle.link_run.proofs.Runs.{texts_as}
-use Rattle.link_run_over_bundle_files.specs.Telling.{WritesRest as TellsText}
+use Rattle.link_run_over_bundle_files.specs.Telling.{WritesRestOfTexts as TellsText}
 use Rattle.link_run_over_transfers.specs.Walk.{Head, WalkEvent, MessageHead, closes as closes_head, is_last, is_beginning, open_with, open_after_event, data_size, has_open, abandons}
 use Rattle.link_run_over_transfers.specs.Telling.{HeadComes, Tells, data_ends}
 use Rattle.link_run_judge.specs.{Transfers.{Transfer, closes, continued}, TransferJudge.{begun, grown}}

@@ -11,13 +11,14 @@ abbrev pub block_line : (id flags : ℕ) → (content : List ℕ) → Block → 
 block_line id flags content (PrimaryOf primary check end) = primary_text id primary check end
 block_line id flags content (CanonicalOf block) = block_text id block (found_in flags content block)
 
--- the lines of blocks, one after another
+-- The lines of blocks, one after another. `flags` are the flags of the bundle before these blocks.
+-- A primary block among them sets the flags for the blocks after it.
 abbrev pub lines_from : (id flags : ℕ) → (content : List ℕ) → List Block → List ℕ
 lines_from id flags content [] = []
 lines_from id flags content (block ∷ rest) =
     block_line id flags content block ++ lines_from id (flags_after flags block) content rest
 
--- The lines of the whole blocks of a bundle, also if the content is no bundle. Any flags would do
--- before the primary block, which comes first.
+-- The lines of the whole blocks in the content, even if the content is no bundle. The flags 0 have
+-- no effect, since the first block is the primary block, and its line does not use them.
 unfoldable pub block_lines : (id : ℕ) → (content : List ℕ) → List ℕ
 block_lines id content = lines_from id 0 content (blocks_in content)

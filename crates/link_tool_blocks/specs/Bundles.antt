@@ -5,17 +5,17 @@ use Rattle.link_report_blocks.specs.Blocks.{end_text}
 use Rattle.link_run.specs.Made.{Made, tool_of}
 use Rattle.link_run.specs.Run.{Tool}
 use Rattle.link_run.specs.Writers.{on_output}
-use Rattle.link_run_over_bundle_files.specs.Bundles.{Packed, bundle_limit}
+use Rattle.link_run_over_bundle_files.specs.Bundles.{BundleWithInfo, bundle_limit}
 use Rattle.link_run_over_bundle_files.specs.Telling.{BundleTelling, told_of}
 use Rattle.link_tool_blocks.specs.BlockLines.{block_lines}
 
 -- the lines of a whole bundle: the lines of its blocks, and the line of its end
-abbrev pub whole_lines : (number : ℕ) → Packed → List ℕ
+abbrev pub whole_lines : (number : ℕ) → BundleWithInfo → List ℕ
 whole_lines number bundle =
     block_lines number bundle.bytes ++ end_text number (length bundle.bytes) (Good bundle.info)
 
 -- the lines of whole bundles; `number` is the number of the first bundle
-unfoldable pub bundle_lines : (number : ℕ) → List Packed → List ℕ
+unfoldable pub bundle_lines : (number : ℕ) → List BundleWithInfo → List ℕ
 bundle_lines number [] = []
 bundle_lines number (bundle ∷ more) = whole_lines number bundle ++ bundle_lines (suc number) more
 

@@ -5,7 +5,8 @@ use Rattle.link_tool_option_types.specs.declared.wanted.Wanted.{Wanted}
 use Rattle.link_tool_blocks.specs.Showing.{blocks_tool}
 use Rattle.link_tool_option_types.specs.declared.blocks.BlockOptions.{BlockOptions}
 
--- the status for an input is that of `unpack`, whichever transfers are selected in each
+-- For each input, `blocks` and `unpack` return the same status, if both have the same `keep_going`.
+-- It does not matter which transfers each selects, nor which data `unpack` writes.
 abbrev pub HasStatusOfUnpack : Type 0
 HasStatusOfUnpack =
     (options : BlockOptions) (wanted : Wanted) (bytes : List ℕ)

@@ -7,7 +7,7 @@ use Rattle.link_bundle_blocks.proofs.Lying.{BlocksWithin-holds}
 use Rattle.link_bundle_blocks.proofs.Showing.{BlocksGrow-holds}
 use Rattle.link_bundle_data_in_pieces.specs.Found.{flags_after}
 use Rattle.link_bundle_data_in_pieces.proofs.Grown.{all_first, all_rest, data_grown, no_blocks}
-use Rattle.link_run_over_bundle_files.specs.Blocks.{SaysMore}
+use Rattle.link_run_over_bundle_files.specs.Blocks.{HasLastingText}
 use Rattle.link_tool_blocks.specs.BlockLines.{block_line, lines_from, block_lines}
 
 -- ---- whole blocks
@@ -33,7 +33,8 @@ lines_grown id flags content more (block ∷ rest) within =
       lines_grown id (flags_after flags block) content more rest others,
     ) refl
 
--- the lines of two lists of blocks, the first before the second
+-- The lines of two lists of blocks, the first before the second. The fold is the flags of the
+-- bundle after the first list. The second list begins with them.
 lines_both : (id flags : ℕ) (content : List ℕ) (first second : List Block)
     → lines_from id flags content (first ++ second)
     ≡ lines_from id flags content first
@@ -44,7 +45,8 @@ lines_both id flags content (block ∷ first) second =
 
 -- ---- more bytes
 
--- more bytes add the lines of the blocks that they add
+-- More bytes add the lines of the blocks that they complete. These lines depend on the flags of the
+-- bundle. The fold is the flags after the earlier blocks.
 pub lines_more : (id : ℕ) (content more : List ℕ) (new : List Block)
     → blocks_in (content ++ more) ≡ blocks_in content ++ new
     → block_lines id (content ++ more)
@@ -59,7 +61,7 @@ lines_more id content more new grown =
     ) refl
 
 -- more bytes change no line, and only add lines at the end
-pub lines_grow : (id : ℕ) (content more : List ℕ) → SaysMore (block_lines id) content more
+pub lines_grow : (id : ℕ) (content more : List ℕ) → HasLastingText (block_lines id) content more
 lines_grow id content more =
     let grows = BlocksGrow-holds content more in
     record {
@@ -81,7 +83,8 @@ no_lines id = ap (lines_from id 0 []) no_blocks
 
 -- ---- one more block
 
--- a block adds its line, with the flags of the bundle after all of its blocks
+-- If more bytes complete one block, they add its line. `flags` are the flags of the bundle after
+-- this block.
 pub line_more : (id flags : ℕ) (content more : List ℕ) (block : Block)
     → flags ≡ fold flags_after 0 (blocks_in (content ++ more))
     → blocks_in (content ++ more) ≡ blocks_in content ++ block ∷ []

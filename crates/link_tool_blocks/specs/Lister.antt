@@ -9,7 +9,8 @@ use Rattle.link_tool_blocks.specs.declared.lister.BlockLister.{BlockLister}
 use Rattle.link_tool_option_types.specs.declared.blocks.BlockOptions.{BlockOptions}
 use Rattle.link_tool_blocks.specs.declared.transfer.TransferBlocks.{TransferBlocks}
 
--- the line of the end of the latest transfer, if it is due and the transfer is selected
+-- The line of the end of the latest transfer, if it is due and the transfer is selected. If not, or
+-- if there is no transfer, there is no text.
 abbrev pub end_due : (only : Option ℕ) → (due : Bool) → List Transfer → List ℕ
 end_due only false transfers = []
 end_due only true [] = []

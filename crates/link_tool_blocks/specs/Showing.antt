@@ -41,13 +41,14 @@ order_line_of _ = []
 
 -- ---- a stream
 
--- the options with which `unpack` selects the same transfers and has the same status; `payload`
--- changes neither
+-- The options of `unpack` with the same selection and the same `keep_going`. `blocks` uses only the
+-- transfers and the status of this `unpack`. Neither depends on `payload`.
 abbrev pub unpacking_by : BlockOptions → Wanted
 unpacking_by options =
     record { only = options.only; payload = false; keep_going = options.keep_going }
 
--- what `blocks` says of a stream; its status is that of `unpack`
+-- What `blocks` says of a stream. The output is the lines of the transfers. The report is the lines
+-- of the heads that are not in order. `manner` and `good` are as in `unpack`, so the status is too.
 abbrev pub blocks_telling : BlockOptions → Telling
 blocks_telling options =
     let wanted = unpacking_by options in

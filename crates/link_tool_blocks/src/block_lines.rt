@@ -64,7 +64,8 @@ fn write_primary<W: OutDevice, E: OutDevice>(
 
 /// Writes the line of a canonical block whose data was read.
 ///
-/// It writes nothing if the data begins beyond any input. This never happens in a run.
+/// If the offset of the data is beyond the longest input, it writes nothing. This never happens in
+/// a run.
 fn write_canonical<W: OutDevice, E: OutDevice>(
     id: u64,
     block: &CanonicalBlock,

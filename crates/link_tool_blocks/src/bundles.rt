@@ -97,8 +97,8 @@ impl BundleConsumer for BundleLister {
         Ok(())
     }
 
-    /// Writes the line of the block that ends with the bytes, if one does, and then the line of the
-    /// end of a whole bundle.
+    /// If a block ends with the bytes, writes the line of the block. If the bundle is whole with
+    /// them, then also writes the line of its end, and begins the next bundle.
     #[inline(always)]
     fn run<W: OutDevice, E: OutDevice>(
         &mut self,
@@ -125,6 +125,7 @@ impl BundleConsumer for BundleLister {
         }
     }
 
+    /// Writes nothing, since no block ends in these bytes.
     fn stop<W: OutDevice, E: OutDevice>(
         &mut self,
         _options: &(),
@@ -135,6 +136,7 @@ impl BundleConsumer for BundleLister {
         Ok(())
     }
 
+    /// Writes nothing after the line of the last bundle's end.
     fn end<W: OutDevice, E: OutDevice>(
         &mut self,
         _options: &(),
@@ -143,6 +145,7 @@ impl BundleConsumer for BundleLister {
         Ok(())
     }
 
+    /// Always true, since the run stops at a bundle with a fault.
     fn is_good(&self, _options: &()) -> bool {
         true
     }

@@ -98,8 +98,10 @@ impl Consumer for BlockLister {
     }
 }
 
-/// If the line of the latest transfer's end is `due`, writes it, and sets `good` to false if the
-/// transfer is not good. The transfer was `abandoned`, or else is closed.
+/// If the latest transfer is over now, does [`show_end_line`] for it. If not, does nothing.
+///
+/// `due` is whether it is over now. `abandoned` is whether it was abandoned. If it is over and was
+/// not abandoned, it is closed.
 #[inline(always)]
 fn show_end<W: OutDevice, E: OutDevice>(
     options: &BlockOptions,
@@ -124,8 +126,10 @@ fn show_end<W: OutDevice, E: OutDevice>(
     }
 }
 
-/// Writes the line of the end of the latest transfer, if it is selected. If the transfer is not
-/// good, `good` becomes false, whether or not it is selected.
+/// If the latest transfer is selected, writes the line of its end. If the transfer is not good,
+/// selected or not, sets `good` of the lister to false.
+///
+/// `abandoned` is whether the transfer was abandoned. If it was not, it is closed.
 #[inline(never)]
 fn show_end_line<W: OutDevice, E: OutDevice>(
     options: &BlockOptions,
@@ -195,8 +199,9 @@ pub fn blocks_run<R: InDevice, W: OutDevice, E: OutDevice>(
 /// status is 1 if a transfer is not good or a message was not in order, and else 0. Transfers that
 /// are not selected count too.
 ///
-/// A message that is not in order stops the stream, unless [`BlockOptions::keep_going`] is set.
-/// Then the report has its line.
+/// A message that is not in order is a fault that stops the stream. If
+/// [`BlockOptions::keep_going`] is set, the stream goes on, and the report has a line for each such
+/// message.
 ///
 /// The answer is an error if a device failed, or the input has more than 2^63 - 1 bytes.
 #[inline(never)]

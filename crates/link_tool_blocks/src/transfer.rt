@@ -21,13 +21,13 @@ pub(crate) struct TransferBlocks {
 
 impl TransferBlocks {
     ghost use Rattle.link_wire.specs.Codes.{is_start};
-    ghost use Rattle.link_wire.specs.MessageBuffer.{SegmentTotalsFit, message_of};
+    ghost use Rattle.link_wire.specs.MessageBuffer.{IfSegmentItemsHaveTotals, message_of};
     ghost use Rattle.link_wire.specs.declared.message.Message.{Message};
     ghost use Rattle.link_wire.specs.declared.message.SegmentHead.{SegmentHead};
     ghost use Rattle.link_run_judge.specs.Transfers.{Transfer};
     ghost use Rattle.link_run_judge.specs.TransferJudge.{begun, grown};
     ghost use Rattle.link_run.specs.Writers.{on_output};
-    ghost use Rattle.link_run_over_bundle_files.specs.Telling.{WritesRest};
+    ghost use Rattle.link_run_over_bundle_files.specs.Telling.{WritesRestOfTexts};
     ghost use Rattle.link_tool_blocks.specs.Showing.{transfer_lines};
     ghost use Rattle.link_tool_blocks.specs.TransferBlocks.{IsTransferBlocksAt};
 
@@ -43,9 +43,10 @@ impl TransferBlocks {
 
     /// Begins the transfer whose first segment has this head.
     ///
-    /// The contract holds for any `only` and any `closed`.
+    /// The contract holds for any selection `only`. `closed` is whether the transfer is closed
+    /// after this head, which makes no difference here.
     pub(crate) fn begin(&mut self, message: &MessageBuffer)
-        requires { SegmentTotalsFit message.now }
+        requires { IfSegmentItemsHaveTotals message.now }
         ensures follows { (only : _) (head : SegmentHead) (closed : _)
             → message_of message.now ≡ Message.Segment head → is_start head.flags ≡ true
             → IsTransferBlocksAt only self.new (begun head closed) }
@@ -55,11 +56,13 @@ impl TransferBlocks {
         self.reader.restart();
     }
 
-    /// Takes the next piece of the transfer's data, and writes the line of each block that it
-    /// completes, if the transfer is selected.
+    /// Takes the next piece of the transfer's data. If the transfer is selected, writes the line of
+    /// each block that the piece completes.
     ///
-    /// If the data would be longer than any input, it takes nothing. This never happens in a run,
-    /// since the data is part of its input. The contract holds for any `closed`.
+    /// If the data would become longer than an input can be, the call takes nothing. This never
+    /// happens in a run, since the data is part of the run's input.
+    ///
+    /// `closed` is whether the transfer is closed after the piece, which makes no difference here.
     #[inline(always)]
     pub(crate) fn take<W: OutDevice, E: OutDevice>(
         &mut self,
@@ -70,7 +73,8 @@ impl TransferBlocks {
         ensures gives { (transfer : Transfer) (closed : _)
             → self.old.judge.size + length piece.now < 2 ^ 63
             → IsTransferBlocksAt options.now.only self.old transfer
-            → WritesRest W.state E.state (on_output (transfer_lines options.now.only true transfer))
+            → WritesRestOfTexts W.state E.state
+            (on_output (transfer_lines options.now.only true transfer))
             (on_output (transfer_lines options.now.only true (grown transfer piece.now closed)))
             (IsTransferBlocksAt options.now.only self.new (grown transfer piece.now closed))
             writers.old writers.new result }

@@ -11,7 +11,7 @@ use Rattle.link_bundle_data_in_pieces.specs.Found.{flags_after, found_in, long_h
 use Rattle.link_bundle_data_in_pieces.proofs.Grown.{all_first, all_rest, data_grown, no_blocks}
 use Rattle.link_rules_shared.specs.Heads.{first_long}
 use Rattle.link_bundle_rules.specs.BundleRules.{broken_bundle_rules}
-use Rattle.link_bundle_rules.specs.{History.bundle_of, ReadBundle.{ReadBundle, begun, block_facts, with_block}}
+use Rattle.link_bundle_rules.specs.{History.bundle_of, BundleFacts.{BundleFacts, begun, block_facts, with_block}}
 use Rattle.link_bundle_rules.specs.declared.history.BundleHistory.{BundleHistory}
 use Rattle.link_tool_check.specs.BundleReader.{IsBundleHistoryOnceBegun}
 use Rattle.link_tool_check.specs.BundleRules.{bundle_rules, read_bundle, rules_of, with_next}
@@ -63,7 +63,7 @@ module _ (content more : List ℕ) where
         (found_in (fold flags_after 0 (blocks_in (content ++ more))) (content ++ more) block)
         (long_head_in (fold flags_after 0 (blocks_in (content ++ more))) (content ++ more) block)
 
-    adds_by : (begins : Bool) (old new : BundleHistory) (read : Option ReadBundle)
+    adds_by : (begins : Bool) (old new : BundleHistory) (read : Option BundleFacts)
         → IsBundleHistoryOnceBegun begins old read content → AddsToHistory old new
         → IsBundleHistoryOnceBegun begins new
         (with_next (content ++ more) read (CanonicalOf block)) (content ++ more)
@@ -77,11 +77,11 @@ module _ (content more : List ℕ) where
         let one_more : length (blocks_in now) ≡ length (blocks_in content) + 1 =
         ap length grown ∙ length-append (blocks_in content) (CanonicalOf block ∷ []) in
         let here : length old.blocks.items ≡ length bundle.blocks =
-        ap (λ (bundle : ReadBundle). length bundle.blocks) was.same in
+        ap (λ (bundle : BundleFacts). length bundle.blocks) was.same in
         let added = adds (omega (arith, few_blocks now, one_more, was.few, here)) in
         record {
           same = added
-              ∙ ap (λ (bundle : ReadBundle). with_block bundle block
+              ∙ ap (λ (bundle : BundleFacts). with_block bundle block
               (found_in (fold flags_after 0 (blocks_in now)) now block)
               (long_head_in (fold flags_after 0 (blocks_in now)) now block)) was.same
               ∙ ap (λ (flags : ℕ). with_block bundle block (found_in flags now block)
@@ -107,7 +107,7 @@ module _ (content more : List ℕ) where
 -- ---- the rules
 
 module _ (content : List ℕ) (info : BundleInfo) (history : BundleHistory) where
-  none_by : (read : Option ReadBundle) → IsBundleHistoryOnceBegun false history read content
+  none_by : (read : Option BundleFacts) → IsBundleHistoryOnceBegun false history read content
       → rules_of content info.payload read ≡ []
   none_by None was = refl
   none_by (Some bundle) was = absurd was
@@ -117,7 +117,7 @@ module _ (content : List ℕ) (info : BundleInfo) (history : BundleHistory) wher
   unfolding bundle_rules
   rules_none was = none_by (read_bundle content) was
 
-  some_by : (read : Option ReadBundle) → IsBundleHistoryOnceBegun true history read content
+  some_by : (read : Option BundleFacts) → IsBundleHistoryOnceBegun true history read content
       → rules_of content info.payload read
       ≡ broken_bundle_rules (bundle_of history (first_long content) info.payload)
   some_by None was = absurd was

@@ -3,8 +3,8 @@ use Rattle.std.proofs.Common.{◌≡◌, ℕ, suc, ◌+◌, Bool, true, ◌&&◌
 use Rattle.std.proofs.lemmas.List.Sums.{sum_by-cons, sum_by_push}
 use Rattle.link_wire.specs.{Device.Output, declared.IoFault.IoFault}
 use Rattle.link_bundle_types.specs.declared.info.BundleInfo.{BundleInfo}
-use Rattle.link_run_over_bundle_files.specs.Bundles.{Packed, size_of}
-use Rattle.link_run_over_bundle_files.specs.Telling.{SoFar, none_yet, WritesRest}
+use Rattle.link_run_over_bundle_files.specs.Bundles.{BundleWithInfo, size_of}
+use Rattle.link_run_over_bundle_files.specs.Telling.{SoFar, none_yet, WritesRestOfTexts}
 use Rattle.link_run_over_bundle_files.proofs.Told.{on_ok_by, told_after, told_part}
 use Rattle.link_run.specs.{Run.no_texts, Writers.on_output}
 use Rattle.link_run.specs.declared.writers.Writers.{Writers}
@@ -22,22 +22,22 @@ no_size : size_of [] ≡ 0
 unfolding size_of
 no_size = refl
 
-size_cons : (bundle : Packed) (bundles : List Packed)
+size_cons : (bundle : BundleWithInfo) (bundles : List BundleWithInfo)
     → size_of (bundle ∷ bundles) ≡ length bundle.bytes + size_of bundles
 unfolding size_of
-size_cons bundle bundles = sum_by-cons (λ (b : Packed). length b.bytes) bundle bundles
+size_cons bundle bundles = sum_by-cons (λ (b : BundleWithInfo). length b.bytes) bundle bundles
 
-size_push : (bundles : List Packed) (bundle : Packed)
+size_push : (bundles : List BundleWithInfo) (bundle : BundleWithInfo)
     → size_of (bundles ++ bundle ∷ []) ≡ size_of bundles + length bundle.bytes
 unfolding size_of
-size_push bundles bundle = sum_by_push (λ (b : Packed). length b.bytes) bundles bundle
+size_push bundles bundle = sum_by_push (λ (b : BundleWithInfo). length b.bytes) bundles bundle
 
 none_broken : broken_bundles 0 0 [] ≡ []
 unfolding broken_bundles
 none_broken = refl
 
 -- the last of the bundles has the number `last`, and begins at `start`
-broken_push : (number offset last start : ℕ) (bundles : List Packed) (bundle : Packed)
+broken_push : (number offset last start : ℕ) (bundles : List BundleWithInfo) (bundle : BundleWithInfo)
     → last ≡ number + length bundles → start ≡ offset + size_of bundles
     → broken_bundles number offset (bundles ++ bundle ∷ [])
     ≡ broken_bundles number offset bundles ++ broken_in last start bundle
@@ -51,7 +51,7 @@ broken_push number offset last start (first ∷ bundles) bundle numbered begins 
     (omega arith) (omega (arith, size_cons first bundles)) in
     rw (later, append_assoc) refl
 
-module _ (must : Bool) (bundles : List Packed) (bundle : Packed) (number : ℕ)
+module _ (must : Bool) (bundles : List BundleWithInfo) (bundle : BundleWithInfo) (number : ℕ)
     (numbered : number ≡ length bundles) where
   abbrev broken : List RuleText
   broken = broken_in number (size_of bundles) bundle
@@ -92,11 +92,11 @@ pub tells_whole : {W E : Type 0} {out_look : W → Output} {report_look : E → 
     → WritesRules out_look report_look must old new was now.good result
     (broken_in number (size_of before.bundles) (record { bytes = before.begun; info = info }))
     → now.offset ≡ size_of before.bundles + length before.begun → IsBundleReaderAt now.bundle []
-    → WritesRest out_look report_look ((bundle_check_telling must).texts before)
+    → WritesRestOfTexts out_look report_look ((bundle_check_telling must).texts before)
     ((bundle_check_telling must).texts (with_end before info))
     (IsBundleCheckerAt must now (with_end before info)) old new result
 tells_whole {result = result} must now before info number numbered good writes next reading =
-    let last : Packed = record { bytes = before.begun; info = info } in
+    let last : BundleWithInfo = record { bytes = before.begun; info = info } in
     record {
       texts = on_output (lines_of must (broken_in number (size_of before.bundles) last));
       said = texts_as (sym (lines_push must before.bundles last number numbered)) refl;
@@ -116,14 +116,14 @@ module _ {W E P : Type 0} {out_look : W → Output} {report_look : E → Output}
     {old new : Writers W E} where
   -- nothing was said
   pub tells_on : {result : Result (Unit {0}) IoFault} (said : List ℕ)
-      → WritesRest out_look report_look no_texts no_texts P old new result
-      → WritesRest out_look report_look (on_output said) (on_output said) P old new result
+      → WritesRestOfTexts out_look report_look no_texts no_texts P old new result
+      → WritesRestOfTexts out_look report_look (on_output said) (on_output said) P old new result
   tells_on said told = rw (append-nil said) at (told_after told (on_output said))
 
   -- a writer failed before the lines of the next bundle
-  pub tells_lost : {Q : Type 0} {fault : IoFault} (must : Bool) (bundles : List Packed)
-      (bundle : Packed) → WritesRest out_look report_look no_texts no_texts P old new (Err fault)
-      → WritesRest out_look report_look (on_output (lines_of must (broken_bundles 0 0 bundles)))
+  pub tells_lost : {Q : Type 0} {fault : IoFault} (must : Bool) (bundles : List BundleWithInfo)
+      (bundle : BundleWithInfo) → WritesRestOfTexts out_look report_look no_texts no_texts P old new (Err fault)
+      → WritesRestOfTexts out_look report_look (on_output (lines_of must (broken_bundles 0 0 bundles)))
       (on_output (lines_of must (broken_bundles 0 0 (bundles ++ bundle ∷ [])))) Q old new (Err fault)
   tells_lost must bundles bundle told =
       rw (lines_push must bundles bundle (length bundles) refl) (told_part _ (tells_on _ told))

@@ -5,11 +5,11 @@ use Rattle.link_session_rules.specs.TransferRules.{broken_transfer_rules}
 use Rattle.link_session_rules.specs.declared.rule.TransferRule.{TransferRule}
 use Rattle.link_report_broken_rules.specs.declared.line.RuleText.{RuleText}
 use Rattle.link_report_broken_rules.specs.declared.rule.BrokenRule.TheVariants.{Transfer}
-use Rattle.link_tool_check.specs.{Checker.IsCheckedTransferAt, Checking.{Begun, closed_rules, data_rules}}
+use Rattle.link_tool_check.specs.{Checker.IsCheckedTransferAt, Checking.{BegunTransfer, closed_rules, data_rules}}
 use Rattle.link_tool_check.specs.{Lines.at_offset, declared.transfer.CheckedTransfer.CheckedTransfer}
 use Rattle.link_tool_check.proofs.Appends.{at_append}
 
-module _ (begun : Begun) where
+module _ (begun : BegunTransfer) where
   abbrev pub of_length : List RuleText
   of_length = at_offset begun.offset
       (map (λ rule. Transfer begun.first.id rule) (broken_transfer_rules begun.first (length begun.content)))

@@ -16,7 +16,7 @@ use Rattle.link_run_judge.proofs.Effects.{Does, Strays, Passes, Begins, Continue
 use Rattle.link_session_rules.specs.Remembered.{IsMessageHistoryAt}
 use Rattle.link_report_broken_rules.specs.declared.line.RuleText.{RuleText}
 use Rattle.link_tool_check.specs.Checker.{IsCheckedTransferAtLatest, IsCheckedTransferAt, IsCheckerAt, closed_due, kept_of}
-use Rattle.link_tool_check.specs.Checking.{Begun, Kept, begun_by, broken_by, check_telling, checking, head_rules, judged, kept_with, none_kept, with_bytes}
+use Rattle.link_tool_check.specs.Checking.{BegunTransfer, Kept, begun_by, broken_by, check_telling, checking, head_rules, judged, kept_with, none_kept, with_bytes}
 use Rattle.link_tool_check.specs.{Lines.{lines_of, none_counts}, Writing.WritesRules}
 use Rattle.link_tool_check.specs.declared.checker.Checker.{Checker}
 use Rattle.link_tool_option_types.specs.declared.check.CheckOptions.{CheckOptions}
@@ -24,7 +24,7 @@ use Rattle.link_tool_check.specs.declared.transfer.CheckedTransfer.{CheckedTrans
 use Rattle.link_tool_check.proofs.Appends.{no_lines, none_count}
 
 -- a head that begins no transfer leaves the latest one as it is
-begun_same : (head : Head) (read : Option Begun) → is_beginning head.turn ≡ false
+begun_same : (head : Head) (read : Option BegunTransfer) → is_beginning head.turn ≡ false
     → begun_by head read ≡ read
 begun_same head read none = rw none refl
 
@@ -76,11 +76,11 @@ module _ (options : CheckOptions) (before : List WalkEvent) where
 
   -- ---- data
 
-  with_none : (latest : Option Begun) → option_map (with_bytes []) latest ≡ latest
+  with_none : (latest : Option BegunTransfer) → option_map (with_bytes []) latest ≡ latest
   with_none None = refl
   with_none (Some begun) = rw (append-nil begun.content) refl
 
-  with_more : (byte : ℕ) (bytes : List ℕ) (latest : Option Begun)
+  with_more : (byte : ℕ) (bytes : List ℕ) (latest : Option BegunTransfer)
       → option_map (with_bytes bytes) (option_map (with_bytes (byte ∷ [])) latest)
       ≡ option_map (with_bytes (byte ∷ bytes)) latest
   with_more byte bytes None = refl
@@ -122,7 +122,7 @@ module _ (options : CheckOptions) (before : List WalkEvent) where
         ≡ said_from (checking options) was (data_ends bytes whole)
     data_said = data_said_from bytes whole was
 
-    pub known_data : (now : Checker) (begun : Begun) → was.latest ≡ Some begun
+    pub known_data : (now : Checker) (begun : BegunTransfer) → was.latest ≡ Some begun
         → now.latest.judge.size ≤ data_size before + length bytes
         → now.good ≡ (was.good && none_counts options.must (closed_due whole (Some (with_bytes bytes begun))))
         → IsMessageHistoryAt now.history was.heads
@@ -160,7 +160,7 @@ module _ (options : CheckOptions) (before : List WalkEvent) where
           append-nil,
         ) refl
 
-    pub known_inner : (now : Checker) (begun : Begun) → was.latest ≡ Some begun
+    pub known_inner : (now : Checker) (begun : BegunTransfer) → was.latest ≡ Some begun
         → now.latest.judge.size ≤ data_size before + length bytes
         → now.good ≡ (was.good && none_counts options.must broken)
         → IsMessageHistoryAt now.history (was.heads ++ judged head ∷ [])
@@ -190,12 +190,12 @@ module _ (options : CheckOptions) (before : List WalkEvent) where
 -- ---- a head
 
 -- The latest transfer was read, also after a head, if the head begins it or it was open before.
-abbrev pub IsLatestRead : (now : CheckedTransfer) → (latest : Option Begun) → (begins opened : Bool)
+abbrev pub IsLatestRead : (now : CheckedTransfer) → (latest : Option BegunTransfer) → (begins opened : Bool)
     → Type 0
 IsLatestRead now latest begins opened = (begins ≡ true) ⊎ (opened ≡ true) → IsCheckedTransferAtLatest now latest
 
 module _ (before : List WalkEvent) (head : Head) (comes : HeadComes before head) where
-  pub read_after : (read : Option Begun) (old now : CheckedTransfer)
+  pub read_after : (read : Option BegunTransfer) (old now : CheckedTransfer)
       → (has_open before ≡ true → IsCheckedTransferAtLatest old read)
       → ((first : SegmentHead) → is_beginning head.turn ≡ true
       → head.message ≡ message.Segment first → is_start first.flags ≡ true

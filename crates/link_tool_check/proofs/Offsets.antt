@@ -6,7 +6,7 @@ use Rattle.link_bundle_blocks.specs.declared.block.CanonicalBlock.{CanonicalBloc
 use Rattle.link_bundle_data.specs.BlockData.{BlockData}
 use Rattle.link_bundle_data.specs.declared.values.DataFault.{DataFault}
 use Rattle.link_report_blocks.specs.Fits.{WordsFit}
-use Rattle.link_bundle_rules.specs.ReadBundle.{malformed_at, long_head_at}
+use Rattle.link_bundle_rules.specs.BundleFacts.{malformed_at, long_head_at}
 
 -- the offset of malformed data has 64 bits
 pub malformed_fits : (block : CanonicalBlock) (found : Option (Result BlockData DataFault))

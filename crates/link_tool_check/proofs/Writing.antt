@@ -7,7 +7,7 @@ use Rattle.link_wire.specs.{Device.Output, declared.IoFault.IoFault}
 use Rattle.link_run.specs.{Writers.{AfterWrite, on_output}, declared.writers.Writers.Writers}
 use Rattle.link_run.proofs.Runs.{outputs_then, part_of_more, writes_none}
 use Rattle.link_run.specs.Run.{Texts, no_texts}
-use Rattle.link_run_over_bundle_files.specs.Telling.{WritesRest}
+use Rattle.link_run_over_bundle_files.specs.Telling.{WritesRestOfTexts}
 use Rattle.link_run_over_bundle_files.proofs.Told.{on_ok_by}
 use Rattle.link_run_judge.proofs.Counts.{on_ok}
 use Rattle.link_report_broken_rules.specs.declared.{line.RuleText.RuleText, rule.BrokenRule.BrokenRule}
@@ -31,7 +31,7 @@ module _ {W E : Type 0} {out_look : W → Output} {report_look : E → Output} {
   -- nothing was to be written
   pub quiet_written : {P : Type 0} {old new : Writers W E} {good : Bool}
       {result : Result (Unit {0}) IoFault}
-      → WritesRest out_look report_look no_texts no_texts P old new result
+      → WritesRestOfTexts out_look report_look no_texts no_texts P old new result
       → WritesRules out_look report_look must old new good good result []
   quiet_written {old = old} {new = new} {good = good} {result = result} told = record {
     wrote = rw (no_lines must) (subst

@@ -12,9 +12,10 @@ use Rattle.link_tool_check.specs.declared.bundles.BundleChecker.{BundleChecker}
 pub record IsBundleCheckerAt (must : Bool) (now : BundleChecker) (so_far : SoFar) : Type 0 where
   pub offset : now.offset ≡ size_of so_far.bundles
   pub reading : IsBundleReaderAt now.bundle so_far.begun
+  -- the first bundle has the number 0 and the offset 0
   pub good : now.good ≡ none_counts must (broken_bundles 0 0 so_far.bundles)
 
--- what has come once the bundle that has begun is whole, and has these fields
+-- The bundle that has begun is whole now, and has these fields. No byte of the next one has come.
 abbrev pub with_end : SoFar → BundleInfo → SoFar
 with_end before info =
     between (before.bundles ++ record { bytes = before.begun; info = info } ∷ [])

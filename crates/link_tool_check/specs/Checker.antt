@@ -8,25 +8,26 @@ use Rattle.link_session_rules.specs.TransferRules.{opening_of}
 use Rattle.link_session_rules.specs.Remembered.{IsMessageHistoryAt}
 use Rattle.link_report_broken_rules.specs.declared.line.RuleText.{RuleText}
 use Rattle.link_tool_check.specs.BundleReader.{IsBundleReaderAt}
-use Rattle.link_tool_check.specs.Checking.{Begun, Kept, none_kept, checking, rules_at, closed_rules}
+use Rattle.link_tool_check.specs.Checking.{BegunTransfer, Kept, none_kept, checking, rules_at, closed_rules}
 use Rattle.link_tool_check.specs.declared.checker.Checker.{Checker}
 use Rattle.link_tool_option_types.specs.declared.check.CheckOptions.{CheckOptions}
 use Rattle.link_tool_check.specs.declared.transfer.CheckedTransfer.{CheckedTransfer}
 
--- the transfer for its judge, to which it makes no difference whether it is closed
-abbrev pub transfer_of : Begun → Transfer
+-- The transfer as its judge needs it. The judge does not use `closed`.
+abbrev pub transfer_of : BegunTransfer → Transfer
 transfer_of begun = record { first = begun.first; content = begun.content; closed = false }
 
 -- exactly this transfer was read so far
-pub record IsCheckedTransferAt (now : CheckedTransfer) (begun : Begun) : Type 0 where
+pub record IsCheckedTransferAt (now : CheckedTransfer) (begun : BegunTransfer) : Type 0 where
   pub offset : now.offset ≡ begun.offset
   pub opening : now.opening ≡ opening_of begun.first
   pub judging : IsTransferJudgeAt now.judge (transfer_of begun)
   pub reading : IsBundleReaderAt now.bundle begun.content
 
--- a transfer has begun, and the latest was read so far
-pub record IsCheckedTransferAtLatest (now : CheckedTransfer) (latest : Option Begun) : Type 0 where
-  pub begun : Begun
+-- There is a latest transfer, and `now` has read exactly its data so far.
+pub record IsCheckedTransferAtLatest (now : CheckedTransfer) (latest : Option BegunTransfer)
+    : Type 0 where
+  pub begun : BegunTransfer
   pub is : latest ≡ Some begun
   pub checks : IsCheckedTransferAt now begun
 
@@ -45,5 +46,5 @@ pub record IsCheckerAt (options : CheckOptions) (now : Checker) (events : List W
       → IsCheckedTransferAtLatest now.latest (kept_of options events).latest
 
 -- the rules that the latest transfer breaks, if it is closed now (`due`), and else none
-abbrev pub closed_due : (due : Bool) → Option Begun → List RuleText
+abbrev pub closed_due : (due : Bool) → Option BegunTransfer → List RuleText
 closed_due due latest = if due then rules_at closed_rules latest else []

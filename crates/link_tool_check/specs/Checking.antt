@@ -8,10 +8,10 @@ use Rattle.link_bundle_blocks.specs.Bundle.{verdict}
 use Rattle.link_run.specs.Made.{Made, tool_of}
 use Rattle.link_run.specs.Run.{Tool}
 use Rattle.link_run.specs.Writers.{on_output}
-use Rattle.link_run_over_transfers.specs.Saying.{Keeping, telling_of}
+use Rattle.link_run_over_transfers.specs.Saying.{StatefulTool, telling_of}
 use Rattle.link_run_over_transfers.specs.Walk.{Head, WalkEvent, ContactHeader, MessageHead, Data, Whole, LeftOpen, closes, is_beginning, Telling, told_of}
 use Rattle.link_session_rules.specs.Flags.{contact_flags}
-use Rattle.link_session_rules.specs.Heads.{HeadWithJudgement, segment_of}
+use Rattle.link_session_rules.specs.Heads.{HeadWithOrder, segment_of}
 use Rattle.link_session_rules.specs.MessageRules.{broken_rules}
 use Rattle.link_session_rules.specs.TransferData.{data_rule}
 use Rattle.link_session_rules.specs.TransferRules.{broken_transfer_rules}
@@ -26,7 +26,7 @@ use Rattle.link_tool_option_types.specs.declared.check.CheckOptions.{CheckOption
 -- ---- a transfer
 
 -- A transfer that has begun: the offset and the head of its first segment, and its data so far.
-pub record Begun : Type 0 where
+pub record BegunTransfer : Type 0 where
   pub offset : ℕ
   pub first : SegmentHead
   pub content : List ℕ
@@ -46,19 +46,19 @@ data_rules id content (Err fault) =
 
 -- The rules that a closed transfer breaks: those of its length, and then those of its data. A wrong
 -- length hides none of the others.
-abbrev pub closed_rules : Begun → List BrokenRule
+abbrev pub closed_rules : BegunTransfer → List BrokenRule
 closed_rules begun =
     map (λ rule. Transfer begun.first.id rule)
     (broken_transfer_rules begun.first (length begun.content))
     ++ data_rules begun.first.id begun.content (verdict begun.content)
 
 -- A transfer that is open when the stream ends between two messages breaks one rule.
-abbrev pub open_rules : Begun → List BrokenRule
+abbrev pub open_rules : BegunTransfer → List BrokenRule
 open_rules begun = Transfer begun.first.id (Unfinished (length begun.content)) ∷ []
 
 -- what `rules` says that the latest transfer breaks, at the offset of its first segment; before the
 -- first transfer, nothing
-abbrev pub rules_at : (Begun → List BrokenRule) → Option Begun → List RuleText
+abbrev pub rules_at : (BegunTransfer → List BrokenRule) → Option BegunTransfer → List RuleText
 rules_at rules None = []
 rules_at rules (Some begun) = at_offset begun.offset (rules begun)
 
@@ -67,9 +67,9 @@ rules_at rules (Some begun) = at_offset begun.offset (rules begun)
 -- what is kept of the events so far
 pub record Kept : Type 0 where
   -- the heads of all messages so far, in order
-  pub heads : List HeadWithJudgement
-  -- the transfer that began last
-  pub latest : Option Begun
+  pub heads : List HeadWithOrder
+  -- the latest transfer, which may be over
+  pub latest : Option BegunTransfer
   -- whether no rule that counts was broken
   pub good : Bool
 
@@ -77,11 +77,11 @@ abbrev pub none_kept : Kept
 none_kept = record { heads = []; latest = None; good = true }
 
 -- a head as the rules of messages need it: without its offset
-abbrev pub judged : Head → HeadWithJudgement
+abbrev pub judged : Head → HeadWithOrder
 judged head = record { message = head.message; fault = head.fault; turn = head.turn }
 
 -- the latest transfer after a head, which may begin one
-abbrev pub begun_by : Head → Option Begun → Option Begun
+abbrev pub begun_by : Head → Option BegunTransfer → Option BegunTransfer
 begun_by head latest =
     if is_beginning head.turn
     then option_map (λ first. record { offset = head.offset; first = first; content = [] })
@@ -89,17 +89,18 @@ begun_by head latest =
     else latest
 
 -- the transfer with more data
-abbrev pub with_bytes : (bytes : List ℕ) → Begun → Begun
+abbrev pub with_bytes : (bytes : List ℕ) → BegunTransfer → BegunTransfer
 with_bytes bytes begun = record begun { content = begun.content ++ bytes }
 
 -- the rules that a head breaks after these heads
-abbrev pub head_rules : CheckOptions → (before : List HeadWithJudgement) → Head → List RuleText
+abbrev pub head_rules : CheckOptions → (before : List HeadWithOrder) → Head → List RuleText
 head_rules options before head =
     at_offset head.offset
     (map (λ rule. Message rule) (broken_rules options.peer before (judged head)))
 
--- The rules that are broken with one more event. A head may break rules of messages, and it may
--- close a transfer, if its segment is the last and has no data.
+-- The rules that are broken with one more event. A head may break rules of messages. If its segment
+-- is the last of a transfer and has no data, the head also closes the transfer. Otherwise `Whole`
+-- does. A transfer breaks rules when it is closed, or if it is left open at the end.
 abbrev pub broken_by : CheckOptions → Kept → WalkEvent → List RuleText
 broken_by options kept (ContactHeader contact) =
     at_offset 0 (map (λ rule. Message rule) (optional (contact_flags contact)))
@@ -111,12 +112,12 @@ broken_by options kept Whole = rules_at closed_rules kept.latest
 broken_by options kept LeftOpen = rules_at open_rules kept.latest
 
 -- the heads after one more event; only a message adds one, at the end
-abbrev pub heads_with : List HeadWithJudgement → WalkEvent → List HeadWithJudgement
+abbrev pub heads_with : List HeadWithOrder → WalkEvent → List HeadWithOrder
 heads_with heads (MessageHead head) = heads ++ judged head ∷ []
 heads_with heads _ = heads
 
 -- the latest transfer after one more event, which may begin a transfer or add a byte
-abbrev pub latest_with : Option Begun → WalkEvent → Option Begun
+abbrev pub latest_with : Option BegunTransfer → WalkEvent → Option BegunTransfer
 latest_with latest (MessageHead head) = begun_by head latest
 latest_with latest (Data byte) = option_map (with_bytes (byte ∷ [])) latest
 latest_with latest _ = latest
@@ -132,7 +133,7 @@ kept_with options kept event = record {
 -- ---- a stream
 
 -- what `check` keeps of events, and the lines that it writes for each
-abbrev pub checking : CheckOptions → Keeping Kept
+abbrev pub checking : CheckOptions → StatefulTool Kept
 checking options = record {
   start = none_kept;
   next = kept_with options;

@@ -5,20 +5,21 @@ use Rattle.link_bundle_blocks.specs.Blocks.{Block, PrimaryOf, CanonicalOf, LiesW
 use Rattle.link_bundle_blocks.specs.Bundle.{blocks_in}
 use Rattle.link_bundle_blocks.proofs.Lying.{BlocksWithin-holds}
 use Rattle.link_bundle_data_in_pieces.proofs.Grown.{all_first, all_rest, data_grown}
-use Rattle.link_bundle_rules.specs.ReadBundle.{ReadBundle}
+use Rattle.link_bundle_rules.specs.BundleFacts.{BundleFacts}
 use Rattle.link_bundle_rules.specs.declared.history.BundleHistory.{BundleHistory}
 use Rattle.link_tool_check.specs.BundleReader.{IsBundleHistoryOnceBegun}
 use Rattle.link_tool_check.specs.BundleRules.{read_bundle, with_next}
 
 module _ (content more : List ℕ) where
   -- a whole block stays as it is
-  next_grown : (before : Option ReadBundle) (block : Block) → LiesWithin (length content) block
+  next_grown : (before : Option BundleFacts) (block : Block) → LiesWithin (length content) block
       → with_next (content ++ more) before block ≡ with_next content before block
   next_grown before (PrimaryOf primary check end) within = refl
   next_grown before (CanonicalOf block) within =
       simp (data_grown content more block within.0)
 
-  all_grown : (before : Option ReadBundle) (blocks : List Block)
+  -- whole blocks stay as they are
+  all_grown : (before : Option BundleFacts) (blocks : List Block)
       → All (LiesWithin (length content)) blocks
       → fold (with_next (content ++ more)) before blocks ≡ fold (with_next content) before blocks
   all_grown before [] within = refl
@@ -40,7 +41,8 @@ module _ (content more : List ℕ) where
 
   -- ---- no block has ended
 
-  same_by : (begins : Bool) (history : BundleHistory) (read : Option ReadBundle)
+  -- `more` completes no block, so the history is still one of the bundle `read`
+  same_by : (begins : Bool) (history : BundleHistory) (read : Option BundleFacts)
       → blocks_in (content ++ more) ≡ blocks_in content
       → IsBundleHistoryOnceBegun begins history read content
       → IsBundleHistoryOnceBegun begins history read (content ++ more)
@@ -53,6 +55,7 @@ module _ (content more : List ℕ) where
     few = rw same was.few;
   }
 
+  -- `more` completes no block, so the history is still one of the bundle that was read
   pub history_same : (begins : Bool) (history : BundleHistory)
       → blocks_in (content ++ more) ≡ blocks_in content
       → IsBundleHistoryOnceBegun begins history (read_bundle content) content

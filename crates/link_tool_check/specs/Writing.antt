@@ -7,8 +7,9 @@ use Rattle.link_run.specs.declared.writers.Writers.{Writers}
 use Rattle.link_report_broken_rules.specs.declared.line.RuleText.{RuleText}
 use Rattle.link_tool_check.specs.Lines.{lines_of, none_counts}
 
--- The lines of those rules that count were written, or a writer failed. If none failed, `good` is
--- true if it `was` true before and none of the rules counts.
+-- The lines of those rules that count were written, or a writer failed. `was` and `good` are the
+-- same variable before and after the call. If no writer failed, it keeps its value, but becomes
+-- false if one of the rules counts.
 pub record WritesRules {W E : Type 0} (out_look : W → Output) (report_look : E → Output)
     (must : Bool) (old new : Writers W E) (was good : Bool) (result : Result (Unit {0}) IoFault)
     (broken : List RuleText) : Type 0 where

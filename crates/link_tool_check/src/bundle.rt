@@ -4,7 +4,7 @@ ghost use Rattle.std.specs.Prelude.{◌≡◌, ◌+◌, ◌^◌, ◌≤◌, ◌<
 ghost use Rattle.link_bundle_data_in_pieces.specs.DataReader.{IsDataReaderIn, read_size};
 ghost use Rattle.link_bundle_data_in_pieces.specs.Found.{found_in, long_head_in};
 ghost use Rattle.link_bundle_rules.specs.History.{bundle_of};
-ghost use Rattle.link_bundle_rules.specs.ReadBundle.{with_block};
+ghost use Rattle.link_bundle_rules.specs.BundleFacts.{with_block};
 
 use crate::lines::write_rules;
 use link_bundle::{BlockView, BundleScan, CanonicalBlock};
@@ -74,6 +74,9 @@ impl BlockConsumer for KeptBlocks {
 /// Adds a whole block to a history, and what `reader` found in the block's data.
 ///
 /// If this toolkit reads data of the block's type, `reader` has taken all of it before.
+///
+/// In the contract, `None` and 0 stand for the bundle's long head and its payload's length. A
+/// history keeps neither.
 #[inline(always)]
 fn add(history: &mut BundleHistory, block: &CanonicalBlock, reader: &DataReader)
     requires { read_size reader.now < 2 ^ 63 }
@@ -97,7 +100,7 @@ fn add(history: &mut BundleHistory, block: &CanonicalBlock, reader: &DataReader)
     }
 }
 
-/// [`add`] for a block whose data is read. This one is not inlined.
+/// Does [`add`] for a block in whose data the reader found something. It is not inlined.
 #[inline(never)]
 fn add_read<'a>(history: &mut BundleHistory, block: &'a CanonicalBlock, reader: &'a DataReader)
     requires { read_size reader.now < 2 ^ 63 }
@@ -120,7 +123,7 @@ impl BundleReader {
     ghost use Rattle.link_bundle_types.specs.declared.info.BundleInfo.{BundleInfo};
     ghost use Rattle.link_bundle.specs.Scan.{HasJudged, scan_size};
     ghost use Rattle.link_run.specs.Run.{no_texts};
-    ghost use Rattle.link_run_over_bundle_files.specs.Telling.{RunViewComes, SoFar, WritesRest};
+    ghost use Rattle.link_run_over_bundle_files.specs.Telling.{RunViewComes, SoFar, WritesRestOfTexts};
     ghost use Rattle.link_rules_shared.specs.Heads.{unread_of};
     ghost use Rattle.link_tool_check.specs.BundleReader.{IsBundleReaderAt, data_size};
     ghost use Rattle.link_tool_check.specs.BundleRules.{bundle_rules};
@@ -172,7 +175,7 @@ impl BundleReader {
         ensures read { data_size self.new ≤ before + length piece.now }
         ensures gives { (content : List ℕ) → length content ≡ before → HasJudged scan.old content
             → IsBundleReaderAt self.old content
-            → WritesRest W.state E.state no_texts no_texts
+            → WritesRestOfTexts W.state E.state no_texts no_texts
             (HasJudged scan.new (content ++ piece.now)
             × IsBundleReaderAt self.new (content ++ piece.now)) writers.old writers.new result }
     {
@@ -204,7 +207,7 @@ impl BundleReader {
         ensures read { data_size self.new ≤ run.now.before + length run.now.bytes.now }
         ensures gives { (limit : ℕ) (before : SoFar) → IsBundleReaderAt self.old before.begun
             → RunViewComes limit true before run.now
-            → WritesRest W.state E.state no_texts no_texts
+            → WritesRestOfTexts W.state E.state no_texts no_texts
             (IsBundleReaderAt self.new (before.begun ++ run.now.bytes.now))
             writers.old writers.new result }
     {
@@ -236,27 +239,31 @@ impl BundleReader {
         ensures { (content : List ℕ) (info : BundleInfo) → IsBundleReaderAt self.now content
             → result ≡ true → bundle_rules content info ≡ [] }
     {
+        // Without a primary block, no rule is broken. A whole bundle has one.
         if !self.blocks.begun {
             return true;
         }
         self.blocks.history.keeps_rules(self.heads.first_long())
     }
 
-    /// The rules that the bundle breaks, if it is good, whole and has a payload of this length.
+    /// The rules that the bundle breaks. It has to be good and whole. `payload` is the number of
+    /// bytes of its payload.
     fn rules(&self, payload: u64) -> BrokenBundleRules
         ensures { (content : List ℕ) (info : BundleInfo) → IsBundleReaderAt self.now content
             → payload ≡ info.payload
             → result.items ≡ bundle_rules content info }
     {
+        // Without a primary block, no rule is broken. A whole bundle has one.
         if !self.blocks.begun {
             return BrokenBundleRules::new();
         }
         self.blocks.history.rules(self.heads.first_long(), payload)
     }
 
-    /// Writes the lines of the rules that the bundle breaks, if it is good and whole.
+    /// Writes the lines of the rules that the bundle breaks. Most bundles break none.
     ///
-    /// Most bundles break none. `payload` is the number of bytes of the payload.
+    /// The bundle has to be good and whole, which is not checked here. `payload` is the number of
+    /// bytes of its payload.
     ///
     /// `must` is whether only rules of level `must` count. If one counts, `good` becomes false.
     #[inline(always)]
@@ -280,7 +287,7 @@ impl BundleReader {
         self.write_broken(must, offset, place, payload, writers, good)
     }
 
-    /// Writes the lines of the rules that the bundle breaks, whether or not it breaks any.
+    /// Does [`BundleReader::write_rules`] for a bundle that may break a rule.
     #[inline(never)]
     fn write_broken<W: OutDevice, E: OutDevice>(
         &self,

@@ -29,7 +29,7 @@ impl BundleChecker {
     ghost use Rattle.std.specs.Prelude.{◌+◌, ◌^◌, ◌<◌, length};
     ghost use Rattle.link_bundle_types.specs.BundleView.{viewed_info};
     ghost use Rattle.link_run_over_bundle_files.specs.Bundles.{size_of};
-    ghost use Rattle.link_run_over_bundle_files.specs.Telling.{SoFar, WritesRest, none_yet};
+    ghost use Rattle.link_run_over_bundle_files.specs.Telling.{SoFar, WritesRestOfTexts, none_yet};
     ghost use Rattle.link_tool_check.specs.BundleChecker.{IsBundleCheckerAt, with_end};
     ghost use Rattle.link_tool_check.specs.Bundles.{bundle_check_telling};
 
@@ -58,7 +58,7 @@ impl BundleChecker {
         ensures gives { (now : SoFar) → IsBundleCheckerAt must self.old now
             → size_of now.bundles + length now.begun < 2 ^ 63
             → whole.entry.length ≡ length now.begun → number ≡ length now.bundles
-            → WritesRest W.state E.state ((bundle_check_telling must).texts now)
+            → WritesRestOfTexts W.state E.state ((bundle_check_telling must).texts now)
             ((bundle_check_telling must).texts (with_end now (viewed_info whole.entry.info)))
             (IsBundleCheckerAt must self.new (with_end now (viewed_info whole.entry.info)))
             writers.old writers.new result }
@@ -139,6 +139,7 @@ impl BundleConsumer for BundleChecker {
         }
     }
 
+    /// Writes nothing, since only a whole bundle has lines.
     fn stop<W: OutDevice, E: OutDevice>(
         &mut self,
         _must: &bool,

@@ -1,9 +1,9 @@
 //! `check`: the lines of the rules that a recorded stream breaks.
 
 ghost use Rattle.std.specs.Prelude.{◌≡◌, ℕ, true, [], ◌∷◌, ◌++◌, List, Option, map};
-ghost use Rattle.link_wire.specs.MessageBuffer.{SegmentTotalsFit};
+ghost use Rattle.link_wire.specs.MessageBuffer.{IfSegmentItemsHaveTotals};
 ghost use Rattle.link_session_rules.specs.Flags.{contact_flags};
-ghost use Rattle.link_session_rules.specs.Heads.{HeadWithJudgement, viewed_head};
+ghost use Rattle.link_session_rules.specs.Heads.{HeadWithOrder, viewed_head};
 ghost use Rattle.link_session_rules.specs.MessageRules.{broken_rules};
 ghost use Rattle.link_session_rules.specs.Remembered.{IsMessageHistoryAt};
 ghost use Rattle.link_report_broken_rules.specs.declared.rule.BrokenRule.TheVariants.{Message};
@@ -12,7 +12,7 @@ ghost use Rattle.link_run.specs.NewRun.{IsNewRun};
 ghost use Rattle.link_run.specs.WholeRun.{AfterRun};
 ghost use Rattle.link_run_over_transfers.specs.Telling.{viewed_head as told_head, inner_head};
 ghost use Rattle.link_tool_check.specs.Checker.{IsCheckedTransferAtLatest, IsCheckerAt, closed_due};
-ghost use Rattle.link_tool_check.specs.Checking.{Begun, check_telling, check_tool, head_rules, judged, optional};
+ghost use Rattle.link_tool_check.specs.Checking.{BegunTransfer, check_telling, check_tool, head_rules, judged, optional};
 ghost use Rattle.link_tool_check.specs.Lines.{at_offset};
 ghost use Rattle.link_tool_check.specs.Writing.{WritesRules};
 ghost use Rattle.link_tool_option_types.specs.declared.check.CheckOptions.{CheckOptions};
@@ -118,7 +118,9 @@ impl Consumer for Checker {
     }
 }
 
-/// Writes the line of the rule of contact headers, if it is broken.
+/// If the contact header breaks the rule of contact headers, writes the line of this rule.
+///
+/// `must` and `good` are as in [`write_rules`].
 fn write_contact<W: OutDevice, E: OutDevice>(
     must: bool,
     contact: &Contact,
@@ -144,11 +146,11 @@ fn judge<W: OutDevice, E: OutDevice>(
     writers: &mut Writers<W, E>,
     good: &mut bool,
 ) -> Result<(), IoFault>
-    requires { SegmentTotalsFit head.now.message.now }
-    ensures gives { (before : List HeadWithJudgement) → IsMessageHistoryAt history.old before
+    requires { IfSegmentItemsHaveTotals head.now.message.now }
+    ensures gives { (before : List HeadWithOrder) → IsMessageHistoryAt history.old before
         → WritesRules W.state E.state options.now.must writers.old writers.new good.old good.new
         result (head_rules options.now before (told_head head.now)) }
-    ensures history { (before : List HeadWithJudgement) → IsMessageHistoryAt history.old before
+    ensures history { (before : List HeadWithOrder) → IsMessageHistoryAt history.old before
         → IsMessageHistoryAt history.new (before ++ judged (told_head head.now) ∷ []) }
 {
     let judged = JudgedHeadView {
@@ -173,13 +175,13 @@ fn judge_inner<W: OutDevice, E: OutDevice>(
     writers: &mut Writers<W, E>,
     good: &mut bool,
 ) -> Result<(), IoFault>
-    requires { SegmentTotalsFit head.now.message.now }
-    ensures gives { (id : ℕ) (before : List HeadWithJudgement)
+    requires { IfSegmentItemsHaveTotals head.now.message.now }
+    ensures gives { (id : ℕ) (before : List HeadWithOrder)
         → told_head head.now ≡ inner_head head.now.offset id length
         → IsMessageHistoryAt history.old before
         → WritesRules W.state E.state options.now.must writers.old writers.new good.old good.new
         result (head_rules options.now before (told_head head.now)) }
-    ensures history { (id : ℕ) (before : List HeadWithJudgement)
+    ensures history { (id : ℕ) (before : List HeadWithOrder)
         → told_head head.now ≡ inner_head head.now.offset id length
         → IsMessageHistoryAt history.old before
         → IsMessageHistoryAt history.new (before ++ judged (told_head head.now) ∷ []) }
@@ -190,7 +192,9 @@ fn judge_inner<W: OutDevice, E: OutDevice>(
     judge_apart(options, *head, history, writers, good)
 }
 
-/// Does [`judge`] for any head. It is not inlined, since few heads of inner segments need it.
+/// Does [`judge`] for the head of an inner segment that may break a rule.
+///
+/// Few inner segments need this call, so it is not inlined.
 #[cold]
 #[inline(never)]
 fn judge_apart<W: OutDevice, E: OutDevice>(
@@ -200,11 +204,11 @@ fn judge_apart<W: OutDevice, E: OutDevice>(
     writers: &mut Writers<W, E>,
     good: &mut bool,
 ) -> Result<(), IoFault>
-    requires { SegmentTotalsFit head.message.now }
-    ensures gives { (before : List HeadWithJudgement) → IsMessageHistoryAt history.old before
+    requires { IfSegmentItemsHaveTotals head.message.now }
+    ensures gives { (before : List HeadWithOrder) → IsMessageHistoryAt history.old before
         → WritesRules W.state E.state options.now.must writers.old writers.new good.old good.new
         result (head_rules options.now before (told_head head.entry)) }
-    ensures history { (before : List HeadWithJudgement) → IsMessageHistoryAt history.old before
+    ensures history { (before : List HeadWithOrder) → IsMessageHistoryAt history.old before
         → IsMessageHistoryAt history.new (before ++ judged (told_head head.entry) ∷ []) }
 {
     judge(options, &head, history, writers, good)
@@ -221,8 +225,8 @@ fn write_head<W: OutDevice, E: OutDevice>(
     writers: &mut Writers<W, E>,
     good: &mut bool,
 ) -> Result<(), IoFault>
-    requires { SegmentTotalsFit head.now.message.now }
-    ensures { (before : List HeadWithJudgement) → IsMessageHistoryAt history.now before
+    requires { IfSegmentItemsHaveTotals head.now.message.now }
+    ensures { (before : List HeadWithOrder) → IsMessageHistoryAt history.now before
         → WritesRules W.state E.state options.now.must writers.old writers.new good.old good.new
         result (at_offset offset (map (λ rule. Message rule)
         (broken_rules options.now.peer before (viewed_head head.now)))) }
@@ -233,7 +237,7 @@ fn write_head<W: OutDevice, E: OutDevice>(
     write_broken(options, offset, head, history, writers, good)
 }
 
-/// Writes the lines of the rules that a head breaks, whether or not it breaks any.
+/// Does [`write_head`] for a head that may break a rule.
 #[inline(never)]
 fn write_broken<W: OutDevice, E: OutDevice>(
     options: &CheckOptions,
@@ -243,8 +247,8 @@ fn write_broken<W: OutDevice, E: OutDevice>(
     writers: &mut Writers<W, E>,
     good: &mut bool,
 ) -> Result<(), IoFault>
-    requires { SegmentTotalsFit head.now.message.now }
-    ensures { (before : List HeadWithJudgement) → IsMessageHistoryAt history.now before
+    requires { IfSegmentItemsHaveTotals head.now.message.now }
+    ensures { (before : List HeadWithOrder) → IsMessageHistoryAt history.now before
         → WritesRules W.state E.state options.now.must writers.old writers.new good.old good.new
         result (at_offset offset (map (λ rule. Message rule)
         (broken_rules options.now.peer before (viewed_head head.now)))) }
@@ -253,8 +257,9 @@ fn write_broken<W: OutDevice, E: OutDevice>(
     write_rules(options.must, offset, (), rules.as_slice(), writers, good)
 }
 
-/// Writes the lines of the rules that the latest transfer breaks, if they are `due`: the transfer
-/// is closed now.
+/// If the latest transfer is closed now, writes the lines of the rules that it breaks.
+///
+/// `due` is whether it is closed now.
 #[inline(always)]
 fn close<W: OutDevice, E: OutDevice>(
     must: bool,
@@ -263,7 +268,8 @@ fn close<W: OutDevice, E: OutDevice>(
     writers: &mut Writers<W, E>,
     good: &mut bool,
 ) -> Result<(), IoFault>
-    ensures { (begun : Option Begun) → (due ≡ true → IsCheckedTransferAtLatest latest.now begun)
+    ensures { (begun : Option BegunTransfer)
+        → (due ≡ true → IsCheckedTransferAtLatest latest.now begun)
         → WritesRules W.state E.state must writers.old writers.new good.old good.new result
         (closed_due due begun) }
 {

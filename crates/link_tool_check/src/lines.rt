@@ -93,10 +93,9 @@ fn write_line<W: OutDevice, E: OutDevice>(
     writers.write_text(broken)
 }
 
-/// Writes the lines of those rules that count, which `owner` breaks at `offset`. If one counts,
-/// sets `good` to false.
+/// Writes a line for each of these rules that counts. If one counts, sets `good` to false.
 ///
-/// `must` is whether only rules of level `must` count.
+/// `owner` breaks the rules at `offset`. `must` is whether only rules of level `must` count.
 #[inline(never)]
 pub(crate) fn write_rules<T: Rule, W: OutDevice, E: OutDevice>(
     must: bool,

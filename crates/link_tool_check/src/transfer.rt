@@ -1,7 +1,7 @@
 //! The latest transfer of a stream, as far as its rules need it.
 
 ghost use Rattle.std.specs.Prelude.{◌≡◌, ◌+◌, ◌^◌, ◌≤◌, ◌<◌, length};
-ghost use Rattle.link_wire.specs.MessageBuffer.{SegmentTotalsFit, message_of};
+ghost use Rattle.link_wire.specs.MessageBuffer.{IfSegmentItemsHaveTotals, message_of};
 ghost use Rattle.link_wire.specs.declared.message.Message.{Message};
 ghost use Rattle.link_wire.specs.declared.message.SegmentHead.{SegmentHead};
 ghost use Rattle.link_session_rules.specs.TransferRules.{opening_of};
@@ -35,10 +35,10 @@ const NO_OPENING: Opening = Opening {
     single: false,
 };
 
-/// What the rules of a transfer's length need of its first segment, which has this head. For a
-/// message of another kind it is `NO_OPENING`.
+/// What the rules of a transfer's length need of its first segment. `message` is the head of this
+/// segment. For a message of another kind, the result is `NO_OPENING`.
 fn opening_of(message: &MessageBuffer) -> Opening
-    requires { SegmentTotalsFit message.now }
+    requires { IfSegmentItemsHaveTotals message.now }
     ensures { (first : SegmentHead) → message_of message.now ≡ Message.Segment first
         → result ≡ opening_of first }
 {
@@ -52,12 +52,12 @@ impl CheckedTransfer {
     ghost use Rattle.std.specs.Prelude.{true, []};
     ghost use Rattle.link_bundle_blocks.specs.Bundle.{verdict};
     ghost use Rattle.link_wire.specs.Codes.{is_start};
-    ghost use Rattle.link_wire.specs.MessageBuffer.{SegmentTotalsFit, message_of};
+    ghost use Rattle.link_wire.specs.MessageBuffer.{IfSegmentItemsHaveTotals, message_of};
     ghost use Rattle.link_wire.specs.declared.message.Message.{Message};
     ghost use Rattle.link_wire.specs.declared.message.SegmentHead.{SegmentHead};
     ghost use Rattle.link_run.specs.Run.{no_texts};
-    ghost use Rattle.link_run_over_bundle_files.specs.Telling.{WritesRest};
-    ghost use Rattle.link_tool_check.specs.Checking.{Begun, closed_rules, data_rules, open_rules, with_bytes};
+    ghost use Rattle.link_run_over_bundle_files.specs.Telling.{WritesRestOfTexts};
+    ghost use Rattle.link_tool_check.specs.Checking.{BegunTransfer, closed_rules, data_rules, open_rules, with_bytes};
     ghost use Rattle.link_tool_check.specs.Checker.{IsCheckedTransferAt};
     ghost use Rattle.link_tool_check.specs.Lines.{at_offset};
     ghost use Rattle.link_tool_check.specs.Writing.{WritesRules};
@@ -79,7 +79,7 @@ impl CheckedTransfer {
     /// A head that is no segment leaves the judge as it is. By the clause `size`, the judge's size
     /// never grows here, so a bound on it still holds.
     pub(crate) fn begin(&mut self, head: &HeadView<'_>)
-        requires { SegmentTotalsFit head.now.message.now }
+        requires { IfSegmentItemsHaveTotals head.now.message.now }
         ensures follows { (first : SegmentHead) → message_of head.now.message.now
             ≡ Message.Segment first → is_start first.flags ≡ true
             → IsCheckedTransferAt self.new
@@ -94,17 +94,17 @@ impl CheckedTransfer {
 
     /// Reads the next bytes of the transfer's data.
     ///
-    /// If the data would be longer than any input, it takes nothing. This never happens in a run,
-    /// since the data is part of its input.
+    /// If the data would become longer than an input can be, the call takes nothing. This never
+    /// happens in a run, since the data is part of the run's input.
     #[inline(always)]
     pub(crate) fn take<W: OutDevice, E: OutDevice>(
         &mut self,
         bytes: &[u8],
         writers: &mut Writers<W, E>,
     ) -> Result<(), IoFault>
-        ensures gives { (begun : Begun) → self.old.judge.size + length bytes.now < 2 ^ 63
+        ensures gives { (begun : BegunTransfer) → self.old.judge.size + length bytes.now < 2 ^ 63
             → IsCheckedTransferAt self.old begun
-            → WritesRest W.state E.state no_texts no_texts
+            → WritesRestOfTexts W.state E.state no_texts no_texts
             (IsCheckedTransferAt self.new (with_bytes bytes.now begun)) writers.old writers.new
             result }
         ensures size { self.new.judge.size ≤ self.old.judge.size + length bytes.now }
@@ -118,8 +118,10 @@ impl CheckedTransfer {
             .take(before, bytes, &mut self.judge.scan, writers)
     }
 
-    /// Writes the lines of those rules that the closed transfer breaks and that count. If there is
-    /// one, sets `good` to false.
+    /// Writes the lines of the rules that the closed transfer breaks.
+    ///
+    /// `must` is whether only rules of level `must` count. The others have no lines. If a broken
+    /// rule counts, `good` becomes false.
     #[inline(never)]
     pub(crate) fn write_closed<W: OutDevice, E: OutDevice>(
         &self,
@@ -127,7 +129,7 @@ impl CheckedTransfer {
         writers: &mut Writers<W, E>,
         good: &mut bool,
     ) -> Result<(), IoFault>
-        ensures { (begun : Begun) → IsCheckedTransferAt self.now begun
+        ensures { (begun : BegunTransfer) → IsCheckedTransferAt self.now begun
             → WritesRules W.state E.state must writers.old writers.new good.old good.new result
             (at_offset begun.offset (closed_rules begun)) }
     {
@@ -146,14 +148,15 @@ impl CheckedTransfer {
         self.write_data(must, writers, good)
     }
 
-    /// Writes the lines of the rules that the data of a closed transfer breaks.
+    /// Writes the lines of the rules that the data of a closed transfer breaks. A good bundle may
+    /// break rules of bundles. Any other data breaks one rule of transfers.
     fn write_data<W: OutDevice, E: OutDevice>(
         &self,
         must: bool,
         writers: &mut Writers<W, E>,
         good: &mut bool,
     ) -> Result<(), IoFault>
-        ensures { (begun : Begun) → IsCheckedTransferAt self.now begun
+        ensures { (begun : BegunTransfer) → IsCheckedTransferAt self.now begun
             → WritesRules W.state E.state must writers.old writers.new good.old good.new result
             (at_offset begun.offset
             (data_rules begun.first.id begun.content (verdict begun.content))) }
@@ -172,7 +175,9 @@ impl CheckedTransfer {
         }
     }
 
-    /// Writes the line of the rule that the transfer breaks if the stream ends while it is open.
+    /// Writes the line of the rule that a transfer breaks by staying open to the end of the stream.
+    ///
+    /// `must` and `good` are as in [`CheckedTransfer::write_closed`].
     #[inline(never)]
     pub(crate) fn write_open<W: OutDevice, E: OutDevice>(
         &self,
@@ -180,7 +185,7 @@ impl CheckedTransfer {
         writers: &mut Writers<W, E>,
         good: &mut bool,
     ) -> Result<(), IoFault>
-        ensures { (begun : Begun) → IsCheckedTransferAt self.now begun
+        ensures { (begun : BegunTransfer) → IsCheckedTransferAt self.now begun
             → WritesRules W.state E.state must writers.old writers.new good.old good.new result
             (at_offset begun.offset (open_rules begun)) }
     {

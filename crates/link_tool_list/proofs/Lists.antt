@@ -5,15 +5,15 @@ use Rattle.link_wire.specs.{Device.Input, Limits.{window_size, longest_head}, Me
 use Rattle.link_wire.specs.Source.{window_of, Takes, Readies}
 use Rattle.link_wire.specs.Stream.{Entry, End, Clean, Cut, Fault, Stream, Reading, reading_of}
 use Rattle.link_wire.specs.Whole.{GivenWholeMessage}
-use Rattle.link_wire.specs.Session.{source_of, left_of, joined, GivenContact, GivenMessage, ReachedEnd, PassedBytes}
+use Rattle.link_wire.specs.Session.{source_of, left_of, joined, GivenContact, GivenHead, ReachedEnd, PassedBytes}
 use Rattle.link_wire.specs.declared.{IoFault.IoFault, message.Contact.Contact}
 use Rattle.link_wire.specs.declared.{message.Message.Message, session.Session.Session}
 use Rattle.link_wire.proofs.Contacts.{reading-none}
 use Rattle.link_io.proofs.Sources.{Takes-none, Takes-then, Readies-takes}
 use Rattle.link_report.specs.Message.{contact_text, message_text}
 use Rattle.link_run.specs.Made.{HasLastingFaults, shows_fault, stop_of}
-use Rattle.link_run.specs.Run.{Texts, no_texts, ◌then◌, Looks, Devices, Place, EndingStep, progress_after}
-use Rattle.link_run.specs.Stages.{IsRunAt, AfterStage, HasEmptyStart}
+use Rattle.link_run.specs.Run.{Texts, no_texts, ◌then◌, Looks, Devices, DevicesInRun, EndingStep, progress_after}
+use Rattle.link_run.specs.Stages.{IsRunAt, AfterStage, HasEmptyStartLastingFaults}
 use Rattle.link_run.specs.Writers.{place_of, on_output, AfterWrite}
 use Rattle.link_run.specs.declared.{next.Next.Next, run.Progress.Progress, run.Status.Status}
 use Rattle.link_run.specs.declared.run.Progress.TheVariants.{More}
@@ -23,7 +23,7 @@ use Rattle.link_run.proofs.Continued.{reading_on}
 use Rattle.link_run.proofs.Runs.{then_assoc, few_over, writes_none}
 use Rattle.link_run.proofs.{Sessions.SameTexts, Stands.{ends, goes_on, written}, Strides.went_with}
 use Rattle.link_tool_list.specs.Listing.{contact_lines, message_lines, listed_lines, listing_by, listing_of, list_tool}
-use Rattle.link_tool_list.specs.ListRun.{most_by, may_go_on, may_follow, HasNoDataYet, IsListingAt, IsListingAtStage, IsLineDue, AreLinesTo, ListsOn, AfterRead, AfterLines, AfterStepOrStride, NextFits}
+use Rattle.link_tool_list.specs.ListRun.{most_by, may_go_on, may_follow, IfInSegmentNoDataGiven, IsListingAtBy, IsListingAtStage, IsLineDue, AreLinesTo, ListsOn, AfterRead, AfterMessageLines, AfterStepOrStride, NextStageFits}
 use Rattle.link_tool_list.specs.declared.listing.Stage.{Stage}
 use Rattle.link_tool_list.specs.declared.listing.Stage.TheVariants as stage
 
@@ -66,7 +66,7 @@ lasting : HasLastingFaults listing_of
 unfolding listing_of
 lasting bytes more shown = rw ((reading_on bytes more).stays shown) shown
 
-pub may_begin : HasEmptyStart listing_of true
+pub may_begin : HasEmptyStartLastingFaults listing_of true
 may_begin = record {
   texts = nothing_listed;
   unshown = rw (by_reading, reading-none) refl;
@@ -114,13 +114,13 @@ module _ {R W E : Type 0} {look : Looks R W E} {start : Devices R W E} (old new 
 
   pub contact_listed : (line : List ℕ) (result : Result (Unit {0}) IoFault)
       → AfterWrite look.output look.report mid after (on_output (contact_text contact)) result
-      → AfterStage look listing_of start true (place_of (source_of old) mid) (place_of (source_of new) after) (IsListingAt look.input stage.Message line new) 6 [] (progress_after result)
+      → AfterStage look listing_of start true (place_of (source_of old) mid) (place_of (source_of new) after) (IsListingAtBy look.input stage.Message line new) 6 [] (progress_after result)
   contact_listed line result gives =
       let size = got.size in
       let clean : (reading_of got.given).end ≡ Clean = rw got.reading refl in
       written 6 (source_of old) (source_of new) mid at got.takes (omega arith) (got.takes.window.less (omega arith)) after (on_output (contact_text contact)) contact_texts
-      (clean_unshown got.given clean) (IsListingAt look.input stage.Message line new)
-      (λ begun. omega arith) (record { session_at = got.at; waits = rw clean refl })
+      (clean_unshown got.given clean) (IsListingAtBy look.input stage.Message line new)
+      (λ begun. omega arith) (record { session_at = got.at; fits = rw clean refl })
       (λ some. refl) result gives
 
 -- ---- messages
@@ -129,11 +129,11 @@ module _ {R W E : Type 0} {look : Looks R W E} {start : Devices R W E} (old new 
     (w : Writers W E) {history : List ℕ}
     (at : IsRunAt look listing_of start true (place_of (source_of old) w) history) where
   module _ (offset : ℕ) (message : Message)
-      (got : GivenMessage look.input old new history offset message) where
+      (got : GivenHead look.input old new history offset message) where
     few : length (window_of (source_of new)) < window_size
     few = got.takes.window.less got.some
 
-    pub message_read : (piece : ℕ) (later : Next Stage) → NextFits (left_of new) later
+    pub message_read : (piece : ℕ) (later : Next Stage) → NextStageFits (left_of new) later
         → AfterRead look start piece stage.Message old new w (message_text offset message) history later
     message_read piece (next.Stage stage.Message) none =
         let left = got.left in
@@ -156,9 +156,9 @@ module _ {R W E : Type 0} {look : Looks R W E} {start : Devices R W E} (old new 
         rw reading refl in
         goes_on longest_head (source_of old) (source_of new) w at got.takes got.size few w no_texts
         (texts_same history got.given _ reading refl) (unshown_by history got.given _ reading refl)
-        (λ bytes. IsListingAt look.input stage.Data (message_text offset message) new bytes × HasNoDataYet stage.Message (reading_of bytes).end)
+        (λ bytes. IsListingAtBy look.input stage.Data (message_text offset message) new bytes × IfInSegmentNoDataGiven stage.Message (reading_of bytes).end)
         (λ begun. got.some)
-        (record { session_at = got.at; waits = rw end (refl, refl) }, rw end refl)
+        (record { session_at = got.at; fits = rw end (refl, refl) }, rw end refl)
         (writes_none look.output look.report w) (λ some. refl)
     message_read piece others goes = absurd goes
 
@@ -187,20 +187,20 @@ pub record Inside (line history : List ℕ) (left : ℕ) : Type 0 where
   pub some : 0 < left
 
 by_end : {R : Type 0} {look : R → Input} (session : Session R) (line history : List ℕ)
-    → IsListingAt look stage.Data line session history → (end : End) → (reading_of history).end ≡ end
+    → IsListingAtBy look stage.Data line session history → (end : End) → (reading_of history).end ≡ end
     → Inside line history (left_of session)
 by_end session line history at Clean is =
-    let waiting : (let s : Stage = stage.Data in s) ≡ stage.Message = rw is at at.waits in
+    let waiting : (let s : Stage = stage.Data in s) ≡ stage.Message = rw is at at.fits in
     absurd (cc)
 by_end session line history at (Cut offset message content) is =
-    let waiting = rw is at at.waits in
+    let waiting = rw is at at.fits in
     let left = rw is at at.session_at.left in
     record { offset = offset; message = message; content = content; end = is; shown = waiting.1; some = left.0 }
 by_end session line history at (Fault offset fault) is =
-    absurd (rw is at at.waits)
+    absurd (rw is at at.fits)
 
 pub inside : {R : Type 0} {look : R → Input} (session : Session R) (line history : List ℕ)
-    → IsListingAt look stage.Data line session history → Inside line history (left_of session)
+    → IsListingAtBy look stage.Data line session history → Inside line history (left_of session)
 inside session line history at = by_end session line history at (reading_of history).end refl
 
 module _ {R W E : Type 0} {look : Looks R W E} {start : Devices R W E} (old mid new : Session R)
@@ -213,7 +213,7 @@ module _ {R W E : Type 0} {look : Looks R W E} {start : Devices R W E} (old mid 
   takes : Takes look.input (source_of old) (source_of new) bytes
   takes = Readies-takes look.input (source_of old) (source_of mid) (source_of new) bytes ready gave.takes some
 
-  pub data_read : (later : Next Stage) → NextFits (left_of new) later
+  pub data_read : (later : Next Stage) → NextStageFits (left_of new) later
       → AfterRead look start piece stage.Data old new w line history later
   data_read (next.Stage stage.Message) none =
       let reading = rw (within.end, le-ltb 0 (left_of new) (omega arith)) at gave.reading in
@@ -234,8 +234,8 @@ module _ {R W E : Type 0} {look : Looks R W E} {start : Devices R W E} (old mid 
       ≡ Cut within.offset within.message (within.content ++ bytes) = rw reading refl in
       goes_on piece (source_of old) (source_of new) w at takes size (takes.window.less some) w no_texts
       (texts_same history bytes _ reading refl) (unshown_by history bytes _ reading refl)
-      (λ given. IsListingAt look.input stage.Data line new given × HasNoDataYet stage.Data (reading_of given).end)
-      (λ begun. some) (record { session_at = gave.at; waits = rw end (refl, within.shown) }, tt)
+      (λ given. IsListingAtBy look.input stage.Data line new given × IfInSegmentNoDataGiven stage.Data (reading_of given).end)
+      (λ begun. some) (record { session_at = gave.at; fits = rw end (refl, within.shown) }, tt)
       (writes_none look.output look.report w) (λ begun. refl)
   data_read others goes = absurd goes
 
@@ -285,8 +285,8 @@ module _ {R W E : Type 0} {look : Looks R W E} {start : Devices R W E} {piece : 
 
   pub lines_written : (far : Bool) (last : List ℕ) (result : Result (Unit {0}) IoFault)
       → (far ≡ false → new ≡ mid)
-      → AfterLines look (listing_of history).texts mid new before after (history ++ due.given) result
-      → AfterStepOrStride look start piece far now (place_of (source_of old) before) (place_of (source_of new) after) (IsListingAt look.input stage.Message last new) history (progress_after result)
+      → AfterMessageLines look (listing_of history).texts mid new before after (history ++ due.given) result
+      → AfterStepOrStride look start piece far now (place_of (source_of old) before) (place_of (source_of new) after) (IsListingAtBy look.input stage.Message last new) history (progress_after result)
   lines_written far last result near gives =
       let on = gives.2 in
       let bytes = due.given ++ on.given in
@@ -299,14 +299,14 @@ module _ {R W E : Type 0} {look : Looks R W E} {start : Devices R W E} {piece : 
         λ is. omega (arith, same_given on.given on.takes (near is)),
         omega (arith, due.some, due.size),
         written size (source_of old) (source_of new) before due.stood takes (omega (arith, due.size, length-append due.given on.given)) (takes.window.less some) after (on_output gives.0) listed.texts
-            (clean_unshown (history ++ bytes) listed.clean) (IsListingAt look.input stage.Message last new) (λ begun. some)
-            (record { session_at = listed.session_at; waits = rw listed.clean refl })
+            (clean_unshown (history ++ bytes) listed.clean) (IsListingAtBy look.input stage.Message last new) (λ begun. some)
+            (record { session_at = listed.session_at; fits = rw listed.clean refl })
             (λ some. refl) result gives.1,
       )
 
 -- what holds after a step that did not go on
 pub not_far : {R W E : Type 0} (look : Looks R W E) (start : Devices R W E) (piece : ℕ)
-    (far : Bool) (now : Stage) (old new : Place R W E) (knows : List ℕ → Type 0) (history : List ℕ)
+    (far : Bool) (now : Stage) (old new : DevicesInRun R W E) (knows : List ℕ → Type 0) (history : List ℕ)
     (result : Result Progress IoFault) → 0 < piece
     → AfterStage look listing_of start true old new knows (most_by piece now) history result
     → AfterStepOrStride look start piece far now old new knows history result

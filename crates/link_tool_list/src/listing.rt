@@ -2,14 +2,14 @@
 
 ghost use Rattle.std.specs.Prelude.{◌≡◌, ◌<◌, true, false, IsTrue, List, ℕ};
 ghost use Rattle.link_wire.specs.Session.{may_open, may_read, is_opened, left_of, source_of};
-ghost use Rattle.link_run.specs.Reading.{feed_of, SessionWaits, ReadsNothing};
+ghost use Rattle.link_run.specs.Reading.{feed_of, SessionWaitsAtMostOnce, ReadsNothing};
 ghost use Rattle.link_run.specs.Run.{Texts, Devices, devices, looks, NoneFailed};
 ghost use Rattle.link_run.specs.NewRun.{IsNewRun};
 ghost use Rattle.link_run.specs.WholeRun.{AfterRun};
-ghost use Rattle.link_run.specs.Stages.{IsRunAt, AfterStage, IsMore};
+ghost use Rattle.link_run.specs.Stages.{IsRunAt, AfterStage, IsNotLastResult};
 ghost use Rattle.link_run.specs.Writers.{AfterWrite, on_output, place_of};
 ghost use Rattle.link_tool_list.specs.Listing.{listing_of, list_tool};
-ghost use Rattle.link_tool_list.specs.ListRun.{may_go_on, may_follow, latest_line, IsListingAtStage, IsNewListing, IsListingAt, AreLinesTo, AfterRead, AfterLines, AfterStepOrStride, NextFits};
+ghost use Rattle.link_tool_list.specs.ListRun.{may_go_on, may_follow, latest_line, IsListingAtStage, IsNewListing, IsListingAtBy, AreLinesTo, AfterRead, AfterMessageLines, AfterStepOrStride, NextStageFits};
 
 use link_report::{KeptDigits, MessageText, contact_line};
 use link_run::{Input, Next, PIECE, Progress, Run, RunEnd, Stages, Status, ToolRun, Writers};
@@ -84,8 +84,8 @@ impl<R: InDevice, W: OutDevice, E: OutDevice> Stages<Session<R>, W, E> for Listi
     }
 }
 
-/// Does a step at any stage, which is given at most `piece` bytes of data. If `far` is true and the
-/// step has written the line of a message, it goes on with the messages that lie whole in the
+/// Does a step, at any stage. The step is given at most `piece` bytes of data. If `far` is true and
+/// the step has written the line of a message, it goes on with the messages that lie whole in the
 /// window.
 #[inline(always)]
 fn step<R: InDevice, W: OutDevice, E: OutDevice>(
@@ -97,7 +97,7 @@ fn step<R: InDevice, W: OutDevice, E: OutDevice>(
 ) -> Result<Progress, IoFault>
     requires fits { IsTrue (may_go_on tool.old.stage (feed_of input.old)) }
     requires piece { 0 < piece }
-    ensures fits { IsMore result → IsTrue (may_go_on tool.new.stage (feed_of input.new)) }
+    ensures fits { IsNotLastResult result → IsTrue (may_go_on tool.new.stage (feed_of input.new)) }
     ensures gives { (start : Devices R W E) (history : List ℕ)
         → IsRunAt (looks R.state W.state E.state) listing_of start true
         (place_of (source_of (feed_of input.old)) writers.old) history
@@ -111,7 +111,7 @@ fn step<R: InDevice, W: OutDevice, E: OutDevice>(
     ensures waits { (history : List ℕ)
         → IsListingAtStage R.state tool.old.stage (latest_line tool.old.latest) (feed_of input.old)
         history
-        → SessionWaits (looks R.state W.state E.state) input.old input.new writers.old }
+        → SessionWaitsAtMostOnce (looks R.state W.state E.state) input.old input.new writers.old }
 {
     if let Stage::Contact = tool.stage {
         tool.stage = Stage::Message;
@@ -134,7 +134,8 @@ fn step<R: InDevice, W: OutDevice, E: OutDevice>(
 
 /// Reads the contact header, and writes its line.
 ///
-/// No message was read yet, so the contract holds for any `line`.
+/// No message was read yet, so the contract holds for any `line`. The 6 in the contract is the
+/// number of bytes of a contact header.
 #[cold]
 #[inline(never)]
 fn list_contact<R: InDevice, W: OutDevice, E: OutDevice>(
@@ -142,7 +143,7 @@ fn list_contact<R: InDevice, W: OutDevice, E: OutDevice>(
     writers: &mut Writers<W, E>,
 ) -> Result<Progress, IoFault>
     requires { IsTrue (may_open (feed_of input.old)) }
-    ensures fits { IsMore result → IsTrue (may_read (feed_of input.new)) }
+    ensures fits { IsNotLastResult result → IsTrue (may_read (feed_of input.new)) }
     ensures gives { (start : Devices R W E) (line history : List ℕ)
         → IsRunAt (looks R.state W.state E.state) listing_of start true
         (place_of (source_of (feed_of input.old)) writers.old) history
@@ -150,8 +151,9 @@ fn list_contact<R: InDevice, W: OutDevice, E: OutDevice>(
         → AfterStage (looks R.state W.state E.state) listing_of start true
         (place_of (source_of (feed_of input.old)) writers.old)
         (place_of (source_of (feed_of input.new)) writers.new)
-        (IsListingAt R.state Stage.Message line (feed_of input.new)) 6 history result }
-    ensures waits { SessionWaits (looks R.state W.state E.state) input.old input.new writers.old }
+        (IsListingAtBy R.state Stage.Message line (feed_of input.new)) 6 history result }
+    ensures waits { SessionWaitsAtMostOnce
+        (looks R.state W.state E.state) input.old input.new writers.old }
 {
     match input.open(writers) {
         Ok(contact) => {
@@ -164,7 +166,7 @@ fn list_contact<R: InDevice, W: OutDevice, E: OutDevice>(
 }
 
 /// Reads the head of a message, or a piece of its data. Returns what comes next: a message, more
-/// data, or nothing.
+/// data, or the end of the run. The contact header was read before.
 #[inline(always)]
 fn advance<R: InDevice, W: OutDevice, E: OutDevice>(
     stage: Stage,
@@ -185,7 +187,7 @@ fn advance<R: InDevice, W: OutDevice, E: OutDevice>(
         (feed_of input.new) writers.new (latest_line latest.new) history result }
     ensures waits { (history : List ℕ)
         → IsListingAtStage R.state stage (latest_line latest.old) (feed_of input.old) history
-        → SessionWaits (looks R.state W.state E.state) input.old input.new writers.old }
+        → SessionWaitsAtMostOnce (looks R.state W.state E.state) input.old input.new writers.old }
 {
     match stage {
         Stage::Data => pass_data(piece, input, writers),
@@ -205,12 +207,12 @@ fn read_message<R: InDevice, W: OutDevice, E: OutDevice>(
     ensures gives { (start : Devices R W E) (piece : ℕ) (history : List ℕ)
         → IsRunAt (looks R.state W.state E.state) listing_of start true
         (place_of (source_of (feed_of input.old)) writers.old) history
-        → IsListingAt R.state Stage.Message (latest_line latest.old) (feed_of input.old) history
+        → IsListingAtBy R.state Stage.Message (latest_line latest.old) (feed_of input.old) history
         → AfterRead (looks R.state W.state E.state) start piece Stage.Message (feed_of input.old)
         (feed_of input.new) writers.new (latest_line latest.new) history result }
     ensures waits { (history : List ℕ)
-        → IsListingAt R.state Stage.Message (latest_line latest.old) (feed_of input.old) history
-        → SessionWaits (looks R.state W.state E.state) input.old input.new writers.old }
+        → IsListingAtBy R.state Stage.Message (latest_line latest.old) (feed_of input.old) history
+        → SessionWaitsAtMostOnce (looks R.state W.state E.state) input.old input.new writers.old }
 {
     match input.next_message(writers, &mut latest.message) {
         Ok(Some(offset)) => {
@@ -237,12 +239,12 @@ fn pass_data<R: InDevice, W: OutDevice, E: OutDevice>(
     ensures gives { (start : Devices R W E) (line history : List ℕ)
         → IsRunAt (looks R.state W.state E.state) listing_of start true
         (place_of (source_of (feed_of input.old)) writers.old) history
-        → IsListingAt R.state Stage.Data line (feed_of input.old) history
+        → IsListingAtBy R.state Stage.Data line (feed_of input.old) history
         → AfterRead (looks R.state W.state E.state) start piece Stage.Data (feed_of input.old)
         (feed_of input.new) writers.new line history result }
     ensures waits { (line history : List ℕ)
-        → IsListingAt R.state Stage.Data line (feed_of input.old) history
-        → SessionWaits (looks R.state W.state E.state) input.old input.new writers.old }
+        → IsListingAtBy R.state Stage.Data line (feed_of input.old) history
+        → SessionWaitsAtMostOnce (looks R.state W.state E.state) input.old input.new writers.old }
 {
     match input.load_data(writers) {
         Ok(ready) => {
@@ -258,7 +260,7 @@ fn pass_data<R: InDevice, W: OutDevice, E: OutDevice>(
 fn go_on<R: InDevice, W: OutDevice, E: OutDevice>(input: &Input<Session<R>, W, E>) -> Next<Stage>
     requires { IsTrue (is_opened (feed_of input.now)) }
     ensures fits { IsTrue (may_follow result (feed_of input.now)) }
-    ensures goes { NextFits (left_of (feed_of input.now)) result }
+    ensures goes { NextStageFits (left_of (feed_of input.now)) result }
 {
     if input.left() > 0 {
         return Next::Stage(Stage::Data);
@@ -283,7 +285,7 @@ fn write_lines<R: InDevice, W: OutDevice, E: OutDevice>(
     ensures near { far ≡ false → input.new ≡ input.old }
     ensures gives { (first : Texts) (history : List ℕ)
         → AreLinesTo R.state first (feed_of input.old) (latest_line latest.old) history
-        → AfterLines (looks R.state W.state E.state) first (feed_of input.old)
+        → AfterMessageLines (looks R.state W.state E.state) first (feed_of input.old)
         (feed_of input.new) writers.old writers.new history result }
     ensures unread { ReadsNothing R.state source_of input.old input.new }
 {
@@ -302,7 +304,8 @@ fn write_lines<R: InDevice, W: OutDevice, E: OutDevice>(
     }
 }
 
-/// Writes the line of the message that was read last.
+/// Writes the line of the message that was read last. It keeps the first digits of the offset,
+/// which the next lines may share.
 #[inline(always)]
 fn write_line<W: OutDevice, E: OutDevice>(
     writers: &mut Writers<W, E>,

@@ -10,10 +10,10 @@ use Rattle.link_run.specs.Made.{tool_of}
 use Rattle.link_run.specs.Run.{◌then◌, no_texts}
 use Rattle.link_run.specs.Writers.{on_output}
 use Rattle.link_run.proofs.Runs.{texts_as}
-use Rattle.link_run_over_bundle_files.specs.Bundles.{Packed, Rest, Divided}
+use Rattle.link_run_over_bundle_files.specs.Bundles.{BundleWithInfo, TailAfterBundles, Divided}
 use Rattle.link_run_over_bundle_files.specs.Telling.{BundleTelling, told_by, told_of}
 use Rattle.link_run_over_bundle_files.proofs.{Outcomes.whole_of}
-use Rattle.link_tool_pack.specs.Segments.{flags_of, Sending, cut_at, segments_from, segments_of}
+use Rattle.link_tool_pack.specs.Segments.{flags_of, BundleToCut, cut_at, segments_from, segments_of}
 use Rattle.link_tool_pack.specs.Packing.{segment_size, sending, transfer_bytes, report_line}
 use Rattle.link_tool_pack.specs.More.{id_at, more_lines, more_by, more_of, more_tool}
 use Rattle.link_tool_pack.specs.MoreRun.{more_texts_of, more_telling}
@@ -44,7 +44,7 @@ low_head flags id size announce =
     ap (λ (field : List ℕ). be 1 xfer_segment ++ be 1 flags ++ field
     ++ list_bytes (is_start flags) announce ++ be 8 size) (low_bytes id)
 
-low_segments : (id : ℕ) (parts : Sending) (k count : ℕ)
+low_segments : (id : ℕ) (parts : BundleToCut) (k count : ℕ)
     → segments_from (id % 2 ^ 64) parts k count ≡ segments_from id parts k count
 unfolding segments_from
 low_segments id parts k zero = refl
@@ -58,12 +58,12 @@ low_segments id parts k (suc count) =
 
 module _ (options : MoreOptions) where
   -- the ID of the transfer of the next bundle
-  abbrev next_id : List Packed → ℕ
+  abbrev next_id : List BundleWithInfo → ℕ
   next_id bundles = options.first + length bundles
 
   -- ---- one more bundle, which has the number `n`
 
-  lines_of_push : (number n : ℕ) (bundles : List Packed) (bundle : Packed)
+  lines_of_push : (number n : ℕ) (bundles : List BundleWithInfo) (bundle : BundleWithInfo)
       → n ≡ number + length bundles
       → more_lines options number (bundles ++ bundle ∷ [])
       ≡ more_lines options number bundles ++ report_line options.pack (id_at options n) bundle
@@ -76,7 +76,7 @@ module _ (options : MoreOptions) where
 
   -- ---- more bytes of a bundle, whose segments are written with the ID `id`
 
-  segments_with_id : (id : ℕ) (bundles : List Packed) (begun run : List ℕ) (whole : Bool)
+  segments_with_id : (id : ℕ) (bundles : List BundleWithInfo) (begun run : List ℕ) (whole : Bool)
       → id ≡ id_at options (length bundles)
       → due_with options.pack id begun run whole
       ≡ due_with options.pack (next_id bundles) begun run whole
@@ -84,7 +84,7 @@ module _ (options : MoreOptions) where
       rw known (low_segments (next_id bundles) _ _ _)
 
   -- the bundle goes on
-  pub texts_grown : (id : ℕ) (bundles : List Packed) (begun run : List ℕ)
+  pub texts_grown : (id : ℕ) (bundles : List BundleWithInfo) (begun run : List ℕ)
       → id ≡ id_at options (length bundles)
       → more_texts_of options bundles begun
       then on_output (due_with options.pack id begun run false)
@@ -99,7 +99,7 @@ module _ (options : MoreOptions) where
       (append-nil (more_lines options 0 bundles))
 
   -- the bundle is whole, and no byte of the next one has come
-  pub texts_whole : (id : ℕ) (bundles : List Packed) (begun run : List ℕ) (bundle : Packed)
+  pub texts_whole : (id : ℕ) (bundles : List BundleWithInfo) (begun run : List ℕ) (bundle : BundleWithInfo)
       → id ≡ id_at options (length bundles) → bundle.bytes ≡ begun ++ run → 0 < length run
       → more_texts_of options bundles begun
       then (record {
@@ -135,7 +135,7 @@ module _ (options : MoreOptions) where
   abbrev telling : BundleTelling
   telling = more_telling options
 
-  same_by : (bundles : List Packed) (rest : Option Rest)
+  same_by : (bundles : List BundleWithInfo) (rest : Option TailAfterBundles)
       → (let input : Divided = record { bundles = bundles; rest = rest } in
       ((told_by telling input).texts ≡ (more_by options input).texts)
       × (whole_of (told_by telling input) ≡ whole_of (more_by options input)))

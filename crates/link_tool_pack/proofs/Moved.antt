@@ -11,9 +11,9 @@ use Rattle.link_wire.proofs.{Sound.only_message, Spellings.segment_spelled}
 use Rattle.link_wire.proofs.{Streams.stream_at-nil, Wholes.one_message}
 use Rattle.link_transfer.specs.{Chunks.chunk_at, Cutting.{Cutting, announcement, due}}
 use Rattle.link_transfer.specs.declared.cut.Cut.{Cut}
-use Rattle.link_run_over_bundle_files.specs.Bundles.{Packed, Rest, divided}
+use Rattle.link_run_over_bundle_files.specs.Bundles.{BundleWithInfo, TailAfterBundles, divided}
 use Rattle.link_tool_option_types.specs.declared.pack.PackOptions.{PackOptions}
-use Rattle.link_tool_pack.specs.Segments.{flags_of, segment_bytes, Sending, cutting_of, cut_at, segments_from, segments_of}
+use Rattle.link_tool_pack.specs.Segments.{flags_of, segment_bytes, BundleToCut, cutting_of, cut_at, segments_from, segments_of}
 use Rattle.link_tool_pack.specs.Packing.{sending, transfer_bytes, rest_segments}
 use Rattle.link_tool_pack.specs.More.{more_of}
 use Rattle.link_tool_pack.specs.MoreLaws.{moved_entry, SegmentsDifferOnlyInIds}
@@ -31,7 +31,7 @@ head_spelled first last id size announce id_fits size_fits fits = grind (arith, 
 -- ---- a segment
 
 -- the conditions under which the fields of segments fit
-record SendingFits (sending : Sending) : Type 0 where
+record SendingFits (sending : BundleToCut) : Type 0 where
   pub small : sending.segment ≤ 65536
   pub hold : sending.hold ≤ 1048576
 
@@ -41,7 +41,7 @@ pub announcement_fits : (so_far : Cutting) → so_far.hold ≤ 1048576
 unfolding announcement
 announcement_fits so_far small = grind (arith, nat_tests)
 
-module _ (sending : Sending) (fits : SendingFits sending) (k : ℕ) where
+module _ (sending : BundleToCut) (fits : SendingFits sending) (k : ℕ) where
   abbrev cut : Cut
   cut = cut_at sending k
 
@@ -89,7 +89,7 @@ module _ (first : ℕ) where
   none_moves offset = rw (stream_at-nil offset) refl
 
   -- segments, and what follows them
-  segments_move : (id : ℕ) (sending : Sending) → SendingFits sending → first + id < 2 ^ 64
+  segments_move : (id : ℕ) (sending : BundleToCut) → SendingFits sending → first + id < 2 ^ 64
       → (there here : List ℕ) → ((offset : ℕ) → Moves offset there here) → (k count offset : ℕ)
       → Moves offset (segments_from (first + id) sending k count ++ there)
       (segments_from id sending k count ++ here)
@@ -114,7 +114,7 @@ module _ (first : ℕ) where
     sending_fits whole bundle = record { small = omega arith; hold = options.hold }
 
     -- the segments of these bundles, and what follows them
-    bundles_move : (number : ℕ) (bundles : List Packed) (there here : List ℕ)
+    bundles_move : (number : ℕ) (bundles : List BundleWithInfo) (there here : List ℕ)
         → first + (number + length bundles) ≤ 2 ^ 64
         → ((offset : ℕ) → Moves offset there here) → (offset : ℕ)
         → Moves offset (transfer_bytes options (first + number) bundles ++ there)
@@ -135,13 +135,13 @@ module _ (first : ℕ) where
         (due (cutting_of whole)) offset)
 
     -- those of the bundle that is refused
-    rest_moves : (number : ℕ) (rest : Option Rest) → first + number < 2 ^ 64 → (offset : ℕ)
+    rest_moves : (number : ℕ) (rest : Option TailAfterBundles) → first + number < 2 ^ 64 → (offset : ℕ)
         → Moves offset (rest_segments options (first + number) rest)
         (rest_segments options number rest)
     rest_moves number None fits offset = none_moves offset
     rest_moves number (Some rest) fits offset =
-        let part = sending options false rest.accepted in
-        let moves = segments_move number part (sending_fits false rest.accepted) fits [] []
+        let part = sending options false rest.before_fault in
+        let moves = segments_move number part (sending_fits false rest.before_fault) fits [] []
         none_moves 0 (due (cutting_of part)) offset in
         rw (append-nil, append-nil) at moves
 

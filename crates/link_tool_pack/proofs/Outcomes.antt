@@ -4,8 +4,8 @@ use Rattle.std.proofs.Math.Path.{fun_ext}
 use Rattle.link_run.specs.Made.{tool_of}
 use Rattle.link_run.specs.Run.{Texts, ◌then◌}
 use Rattle.link_run.proofs.Runs.{texts_as, part_of_more, output_then}
-use Rattle.link_run_over_bundle_files.specs.Bundles.{Packed, Rest, Divided}
-use Rattle.link_run_over_bundle_files.specs.Telling.{SoFar, BundleTelling, told_by, told_of, between, WritesRest, with_run}
+use Rattle.link_run_over_bundle_files.specs.Bundles.{BundleWithInfo, TailAfterBundles, Divided}
+use Rattle.link_run_over_bundle_files.specs.Telling.{SoFar, BundleTelling, told_by, told_of, between, WritesRestOfTexts, with_run}
 use Rattle.link_run_over_bundle_files.proofs.{Outcomes.whole_of, Told.on_ok_by}
 use Rattle.link_tool_pack.specs.Packing.{prelude_bytes, segment_size, sending, transfer_bytes, report_lines, packing_of, packing_by, pack_tool, report_line}
 use Rattle.link_tool_pack.specs.PackRun.{texts_of, pack_telling, Sends}
@@ -26,7 +26,7 @@ use Rattle.link_transfer.specs.Chunks.{chunk_count}
 module _ (options : PackOptions) where
   -- ---- one more bundle, which has the number `n`
 
-  pub transfers_of_push : (number n : ℕ) (bundles : List Packed) (bundle : Packed)
+  pub transfers_of_push : (number n : ℕ) (bundles : List BundleWithInfo) (bundle : BundleWithInfo)
       → n ≡ number + length bundles
       → transfer_bytes options number (bundles ++ bundle ∷ [])
       ≡ transfer_bytes options number bundles ++ segments_of n (sending options true bundle.bytes)
@@ -37,7 +37,7 @@ module _ (options : PackOptions) where
   transfers_of_push number n (first ∷ bundles) bundle is =
       rw (transfers_of_push (suc number) n bundles bundle (omega arith), append_assoc) refl
 
-  lines_of_push : (number n : ℕ) (bundles : List Packed) (bundle : Packed)
+  lines_of_push : (number n : ℕ) (bundles : List BundleWithInfo) (bundle : BundleWithInfo)
       → n ≡ number + length bundles
       → report_lines options number (bundles ++ bundle ∷ [])
       ≡ report_lines options number bundles ++ report_line options n bundle
@@ -75,14 +75,14 @@ module _ (options : PackOptions) where
       )
 
   -- the same, after the texts of the bundles before it
-  prelude_bytes-append : (bundles : List Packed) (segments more all : List ℕ) → segments ++ more ≡ all
+  prelude_bytes-append : (bundles : List BundleWithInfo) (segments more all : List ℕ) → segments ++ more ≡ all
       → (prelude_bytes options ++ transfer_bytes options 0 bundles ++ segments) ++ more
       ≡ prelude_bytes options ++ transfer_bytes options 0 bundles ++ all
   prelude_bytes-append bundles segments more all is =
       rw (append_assoc (prelude_bytes options ++ transfer_bytes options 0 bundles), is) refl
 
   -- the bundle with this number goes on
-  pub texts_grown : (number : ℕ) (bundles : List Packed) (begun run : List ℕ)
+  pub texts_grown : (number : ℕ) (bundles : List BundleWithInfo) (begun run : List ℕ)
       → number ≡ length bundles
       → texts_of options bundles begun then on_output (due_with number begun run false)
       ≡ texts_of options bundles (begun ++ run)
@@ -92,7 +92,7 @@ module _ (options : PackOptions) where
       (append-nil (report_lines options 0 bundles)))
 
   -- it is whole, and no byte of the next one has come
-  pub texts_whole : (number : ℕ) (bundles : List Packed) (begun run : List ℕ) (bundle : Packed)
+  pub texts_whole : (number : ℕ) (bundles : List BundleWithInfo) (begun run : List ℕ) (bundle : BundleWithInfo)
       → number ≡ length bundles → bundle.bytes ≡ begun ++ run → 0 < length run
       → texts_of options bundles begun
       then (record {
@@ -158,14 +158,14 @@ kept_as options cutter begun cuts is at =
     record { cut = here; kept = kept_few options cutter begun here }
 
 module _ {W E : Type 0} (out_look : W → Output) (report_look : E → Output) (options : PackOptions)
-    (texts : List Packed → List ℕ → Texts) (before : SoFar) (run : List ℕ) (id : ℕ)
+    (texts : List BundleWithInfo → List ℕ → Texts) (before : SoFar) (run : List ℕ) (id : ℕ)
     (cutter : Cutter) where
   abbrev pushed : (last : Bool) → Cutting
   pushed last = with_bytes run last (cutting options before.begun)
 
   abbrev TellsRun : (now : SoFar) → (old new : Writers W E) → Result (Unit {0}) IoFault → Type 0
   TellsRun now old new result =
-      WritesRest out_look report_look (texts before.bundles before.begun)
+      WritesRestOfTexts out_look report_look (texts before.bundles before.begun)
       (texts now.bundles now.begun) (IsCutterIn options cutter now.begun) old new result
 
   -- the bundle goes on
@@ -183,7 +183,7 @@ module _ {W E : Type 0} (out_look : W → Output) (report_look : E → Output) (
   }
 
   -- the bundle is whole: its last segments are written, and then its line
-  module _ (bundle : Packed) (line : List ℕ) (some : 0 < length run)
+  module _ (bundle : BundleWithInfo) (line : List ℕ) (some : 0 < length run)
       (said : texts before.bundles before.begun
       then (record { output = segments_left id (pushed true); report = line })
       ≡ texts (before.bundles ++ bundle ∷ []) [])
@@ -238,7 +238,7 @@ module _ (options : PackOptions) where
   abbrev telling : BundleTelling
   telling = pack_telling options
 
-  same_by : (bundles : List Packed) (rest : Option Rest)
+  same_by : (bundles : List BundleWithInfo) (rest : Option TailAfterBundles)
       → (let input : Divided = record { bundles = bundles; rest = rest } in
       ((told_by telling input).texts ≡ (packing_by options input).texts)
       × (whole_of (told_by telling input) ≡ whole_of (packing_by options input)))

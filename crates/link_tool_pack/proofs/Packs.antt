@@ -1,11 +1,11 @@
 -- What `pack` writes is the prelude and then the segments alone, and which IDs the lines have.
 use Rattle.std.proofs.Common.{◌≡◌, ℕ, zero, suc, Result, drop, ◌+◌, ◌≤◌, ◌^◌, List, [], ◌∷◌, ◌++◌, length, refl, ap, sym, append_assoc, zero-add, arith}
 use Rattle.link_bundle_types.specs.declared.info.BundleInfo.{BundleInfo}
-use Rattle.link_run_over_bundle_files.specs.Bundles.{Packed, Refusal, Divided, bundle_prefix, divided_by, divided_in, divided}
+use Rattle.link_run_over_bundle_files.specs.Bundles.{BundleWithInfo, Refusal, Divided, bundle_prefix, divided_by, divided_in, divided}
 use Rattle.link_tool_option_types.specs.declared.pack.PackOptions.{PackOptions}
 use Rattle.link_tool_pack.specs.Packing.{prelude_bytes, transfer_bytes, rest_segments, end_bytes, bundles_output, report_lines, packing_of}
 use Rattle.link_tool_pack.specs.More.{id_at, more_output, more_lines, more_of}
-use Rattle.link_tool_pack.specs.MoreLaws.{from, HasTextsOfMore, HasNoMoreBundlesThanBytes, HasLinesFromFirst}
+use Rattle.link_tool_pack.specs.MoreLaws.{from, IsPreludeThenPackMore, HasNoMoreBundlesThanBytes, HasLinesFromFirst}
 use Rattle.link_tool_pack.specs.declared.more.MoreOptions.{MoreOptions}
 
 output_is : (options : PackOptions) (input : Divided)
@@ -16,7 +16,7 @@ output_is options input =
     (rest_segments options (length input.bundles) input.rest))
 
 -- IDs that fit are in the lines as they are
-lines_are : (options : MoreOptions) (number id : ℕ) (bundles : List Packed)
+lines_are : (options : MoreOptions) (number id : ℕ) (bundles : List BundleWithInfo)
     → id ≡ options.first + number → id + length bundles ≤ 2 ^ 64
     → more_lines options number bundles ≡ report_lines options.pack id bundles
 unfolding report_lines more_lines
@@ -48,7 +48,7 @@ pub has_lines : (options : MoreOptions) (bytes : List ℕ) → HasLinesFromFirst
 unfolding more_of
 has_lines options bytes few = lines_are options 0 options.first _ (omega arith) few
 
-pub is_packed : (options : PackOptions) (bytes : List ℕ) → HasTextsOfMore options bytes
+pub is_packed : (options : PackOptions) (bytes : List ℕ) → IsPreludeThenPackMore options bytes
 unfolding packing_of more_of
 is_packed options bytes =
     let input = divided options.peer_transfer bytes in

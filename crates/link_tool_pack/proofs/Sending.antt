@@ -8,11 +8,11 @@ use Rattle.link_transfer.specs.Cutting.{beginning, with_bytes, due, due_of, anno
 use Rattle.link_transfer.specs.declared.cut.Cut.{Cut}
 use Rattle.link_transfer.proofs.Chunking.{first_chunks-zero}
 use Rattle.link_transfer.proofs.Due.{fits_back, given_within, due_more}
-use Rattle.link_tool_pack.specs.Segments.{segment_bytes, Sending, cut_at, segments_from, segments_of, segments_left, all_given, going, flags_of, sending_of}
+use Rattle.link_tool_pack.specs.Segments.{segment_bytes, BundleToCut, cut_at, segments_from, segments_of, segments_left, all_given, going, flags_of, sending_of}
 use Rattle.std.proofs.{Math.Seq.take-length, lemmas.Option.cond_some}
 use Rattle.link_wire.specs.{Device.Output, Spelled.be, Spelling.{list_bytes, segment_head_bytes}}
 use Rattle.link_wire.specs.declared.IoFault.{IoFault}
-use Rattle.link_transfer.specs.{Cutter.{IsCutterAt, cut_waits}, declared.cutter.Cutter.Cutter}
+use Rattle.link_transfer.specs.{Cutter.{IsCutterAt, has_ready_chunk}, declared.cutter.Cutter.Cutter}
 use Rattle.link_transfer.proofs.{Giving.next_cut-none, Steps.next_cut-is}
 use Rattle.link_run.specs.Writers.{on_output, Writes, FailedWrite, AfterWrite}
 use Rattle.link_run.specs.declared.writers.Writers.{Writers}
@@ -43,7 +43,7 @@ none_kept : (last : Bool) (segment hold size : ℕ) → hold < size
 none_kept last segment hold size over = grind (arith, nat_tests)
 
 -- the bytes that have come, and whether they are the whole bundle
-abbrev sends : (segment hold : ℕ) (bundle : List ℕ) (last : Bool) → Sending
+abbrev sends : (segment hold : ℕ) (bundle : List ℕ) (last : Bool) → BundleToCut
 sends segment hold bundle last = record { segment = segment; hold = hold; bundle = bundle; whole = last }
 
 -- its cut stays the same
@@ -114,7 +114,7 @@ segments_none id segment hold = rw (due_none segment hold) refl
 pub open_none : (segment hold : ℕ) → going segment hold [] ≡ beginning segment hold
 open_none segment hold = rw (due_none segment hold, first_chunks-zero segment []) refl
 
-pub left_none : (id : ℕ) (sending : Sending) (k due : ℕ) → k ≡ due
+pub left_none : (id : ℕ) (sending : BundleToCut) (k due : ℕ) → k ≡ due
     → segments_from id sending k (due - k) ≡ []
 unfolding segments_from
 left_none id sending k due same =
@@ -187,7 +187,7 @@ module _ {W E : Type 0} (out_look : W → Output) (report_look : E → Output) w
 -- ---- a cut
 
 -- the segments left are the next one, and then the others
-segment_then : (id : ℕ) (sending : Sending) (k next due : ℕ) → k < due → k + 1 ≡ next
+segment_then : (id : ℕ) (sending : BundleToCut) (k next due : ℕ) → k < due → k + 1 ≡ next
     → segments_from id sending k (due - k)
     ≡ segment_bytes id (cut_at sending k) (chunk_at sending.segment k sending.bundle)
     ++ segments_from id sending next (due - next)
@@ -266,7 +266,7 @@ idle id cutter now at is =
 pub one_sent : {W E : Type 0} {out_look : W → Output} {report_look : E → Output} {id : ℕ}
     {now : Cutting} {cut : Cut} {chunk : List ℕ} {after : Cutter} {old new : Writers W E}
     {result : Result (Unit {0}) IoFault} → next_cut now ≡ Some cut → next_chunk now ≡ chunk
-    → IsCutterAt after (without_chunk (after_cut now)) → cut_waits after ≡ false
+    → IsCutterAt after (without_chunk (after_cut now)) → has_ready_chunk after ≡ false
     → AfterWrite out_look report_look old new (on_output (segment_bytes id cut chunk)) result
     → Sends out_look report_look id now old new after result
 unfolding due

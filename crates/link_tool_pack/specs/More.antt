@@ -3,7 +3,7 @@
 use Rattle.std.specs.Prelude.{ℕ, suc, ◌+◌, ◌%◌, ◌^◌, true, List, [], ◌∷◌, ◌++◌, length}
 use Rattle.link_run.specs.Made.{Made, tool_of}
 use Rattle.link_run.specs.Run.{Texts, Tool}
-use Rattle.link_run_over_bundle_files.specs.Bundles.{Packed, Divided, divided}
+use Rattle.link_run_over_bundle_files.specs.Bundles.{BundleWithInfo, Divided, divided}
 use Rattle.link_run_over_bundle_files.specs.Telling.{stop_by}
 use Rattle.link_tool_pack.specs.Packing.{transfer_bytes, rest_segments, report_line}
 use Rattle.link_tool_pack.specs.declared.more.MoreOptions.{MoreOptions}
@@ -16,13 +16,14 @@ more_output options input =
     transfer_bytes options.pack options.first input.bundles
     ++ rest_segments options.pack (options.first + length input.bundles) input.rest
 
--- the ID in the segments of a bundle, which comes after `number` bundles
+-- The ID in the segments of a bundle, which comes after `number` bundles. After 2^64 - 1, the IDs
+-- go on with 0.
 abbrev pub id_at : MoreOptions → (number : ℕ) → ℕ
 id_at options number = (options.first + number) % 2 ^ 64
 
 -- a line for each bundle, which begins with the ID of its transfer; `number` bundles come before
 -- these
-unfoldable pub more_lines : MoreOptions → (number : ℕ) → List Packed → List ℕ
+unfoldable pub more_lines : MoreOptions → (number : ℕ) → List BundleWithInfo → List ℕ
 more_lines options number [] = []
 more_lines options number (bundle ∷ more) =
     report_line options.pack (id_at options number) bundle ++ more_lines options (suc number) more

@@ -13,9 +13,10 @@ use Rattle.link_tool_pack.specs.declared.more.MoreOptions.{MoreOptions}
 abbrev pub from : (first : ℕ) → PackOptions → MoreOptions
 from first options = record { first = first; pack = options }
 
--- The output of `pack` is the prelude, then the output of `pack_more` with the first ID 0, and then
--- SESS_TERM, if the options ask for it. Both write the same report, and stop at the same fault.
-pub record HasTextsOfMore (options : PackOptions) (bytes : List ℕ) : Type 0 where
+-- The output of `pack` is the prelude, and then the output of `pack_more` with the first ID 0. If
+-- no fault stops the input and the options ask for it, SESS_TERM follows (`ended`). Both write the
+-- same report, and stop at the same fault.
+pub record IsPreludeThenPackMore (options : PackOptions) (bytes : List ℕ) : Type 0 where
   pub output : (packing_of options bytes).texts.output
       ≡ prelude_bytes options ++ (more_of (from 0 options) bytes).texts.output
   pub ended : (packing_of options bytes).ended.output
@@ -30,7 +31,7 @@ pub record HasTextsOfMore (options : PackOptions) (bytes : List ℕ) : Type 0 wh
 abbrev pub HasNoMoreBundlesThanBytes : (limit : ℕ) → (bytes : List ℕ) → Type 0
 HasNoMoreBundlesThanBytes limit bytes = length (divided limit bytes).bundles ≤ length bytes
 
--- If all IDs fit, the lines are those of the transfers `first` and after it.
+-- If all IDs fit, the lines of the report begin with the IDs from `first` on.
 abbrev pub HasLinesFromFirst : MoreOptions → (bytes : List ℕ) → Type 0
 HasLinesFromFirst options bytes =
     let bundles = (divided options.pack.peer_transfer bytes).bundles in
@@ -46,7 +47,9 @@ moved first message = message
 abbrev pub moved_entry : (first : ℕ) → Entry → Entry
 moved_entry first entry = record entry { message = moved first entry.message }
 
--- With another first ID, the segments are the same except for their IDs. All IDs have to fit.
+-- With another first ID, the segments are the same except for their IDs. All IDs have to fit. This
+-- includes the ID after the last whole bundle, which the segments of an incomplete bundle have.
+-- `stream_at` reads the output as messages. It ends after a whole message (`Clean`).
 abbrev pub SegmentsDifferOnlyInIds : Type 0
 SegmentsDifferOnlyInIds =
     (first : ℕ) (options : PackOptions) (bytes : List ℕ) →

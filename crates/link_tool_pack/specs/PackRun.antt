@@ -10,14 +10,14 @@ use Rattle.link_run.specs.Run.{Texts, ◌then◌, Devices}
 use Rattle.link_run.specs.Writers.{on_output, AfterWrite}
 use Rattle.link_run.specs.WholeRun.{devices_of}
 use Rattle.link_run.specs.declared.{run.RunEnd.RunEnd, writers.Writers.Writers}
-use Rattle.link_run_over_bundle_files.specs.Bundles.{Packed}
+use Rattle.link_run_over_bundle_files.specs.Bundles.{BundleWithInfo}
 use Rattle.link_run_over_bundle_files.specs.Telling.{BundleTelling}
 use Rattle.link_tool_pack.specs.Segments.{segments_of, segments_left, all_given}
 use Rattle.link_tool_pack.specs.Packing.{prelude_bytes, sending, transfer_bytes, end_bytes, report_lines}
 use Rattle.link_tool_option_types.specs.declared.pack.PackOptions.{PackOptions}
 
 -- the texts for these bundles, and for the bytes `begun` of the next one
-abbrev pub texts_of : PackOptions → List Packed → (begun : List ℕ) → Texts
+abbrev pub texts_of : PackOptions → List BundleWithInfo → (begun : List ℕ) → Texts
 texts_of options bundles begun = record {
   output =
       prelude_bytes options ++ transfer_bytes options 0 bundles
@@ -25,7 +25,8 @@ texts_of options bundles begun = record {
   report = report_lines options 0 bundles;
 }
 
--- what `pack` says of the bundles of an input
+-- What `pack` says of the bundles of an input. All of them are good, since the run stops at a
+-- bundle with a fault.
 abbrev pub pack_telling : PackOptions → BundleTelling
 pack_telling options = record {
   limit = options.peer_transfer;

@@ -5,14 +5,14 @@ use Rattle.link_transfer.specs.Chunks.{chunk_count}
 use Rattle.link_report.specs.Packed.{packed_text}
 use Rattle.link_run.specs.Made.{Made, tool_of}
 use Rattle.link_run.specs.Run.{Tool}
-use Rattle.link_run_over_bundle_files.specs.Bundles.{Packed, Rest, Divided, divided}
+use Rattle.link_run_over_bundle_files.specs.Bundles.{BundleWithInfo, TailAfterBundles, Divided, divided}
 use Rattle.link_run_over_bundle_files.specs.Telling.{stop_by}
-use Rattle.link_tool_pack.specs.Segments.{Sending, segments_of}
+use Rattle.link_tool_pack.specs.Segments.{BundleToCut, segments_of}
 use Rattle.link_tool_option_types.specs.declared.pack.PackOptions.{PackOptions}
 
 -- ---- the output
 
--- the contact header (section 4.2) and SESS_INIT (section 4.6)
+-- the contact header (section 4.2), without flags, and SESS_INIT (section 4.6)
 unfoldable pub prelude_bytes : PackOptions → List ℕ
 prelude_bytes options =
     contact_bytes 0 ++ sess_init_bytes options.keepalive options.segment_mru
@@ -24,7 +24,7 @@ segment_size options = min options.peer_segment 65536
 
 -- What the segments of a transfer carry. If `whole` is true, `bundle` is a whole bundle. Otherwise
 -- it is those bytes of an incomplete bundle that were accepted so far.
-abbrev pub sending : PackOptions → (whole : Bool) → List ℕ → Sending
+abbrev pub sending : PackOptions → (whole : Bool) → List ℕ → BundleToCut
 sending options whole bundle =
     record {
       segment = segment_size options;
@@ -34,7 +34,7 @@ sending options whole bundle =
     }
 
 -- the transfers of these bundles (section 5.2.2), whose IDs are their numbers, from `number` on
-unfoldable pub transfer_bytes : PackOptions → (number : ℕ) → List Packed → List ℕ
+unfoldable pub transfer_bytes : PackOptions → (number : ℕ) → List BundleWithInfo → List ℕ
 transfer_bytes options number [] = []
 transfer_bytes options number (bundle ∷ more) =
     segments_of number (sending options true bundle.bytes)
@@ -42,18 +42,20 @@ transfer_bytes options number (bundle ∷ more) =
 
 -- The segments that are due when an input does not end after a whole bundle: those of the accepted
 -- bytes after the last bundle. None of them is the last of its transfer.
-abbrev pub rest_segments : PackOptions → (number : ℕ) → Option Rest → List ℕ
+abbrev pub rest_segments : PackOptions → (number : ℕ) → Option TailAfterBundles → List ℕ
 rest_segments options number None = []
-rest_segments options number (Some rest) = segments_of number (sending options false rest.accepted)
+rest_segments options number (Some rest) =
+    segments_of number (sending options false rest.before_fault)
 
--- SESS_TERM (section 6.1), if the options ask for it, after an input that does not stop at a fault
+-- SESS_TERM (section 6.1), if the options ask for it, after an input that does not stop at a fault.
+-- It has no flags, and the reason 0.
 abbrev pub end_bytes : PackOptions → List ℕ
 end_bytes options = if options.send_term then sess_term_bytes 0 0 else []
 
 -- ---- the report
 
 -- the line of a bundle; `number` is its number in the input
-abbrev pub report_line : PackOptions → (number : ℕ) → Packed → List ℕ
+abbrev pub report_line : PackOptions → (number : ℕ) → BundleWithInfo → List ℕ
 report_line options number bundle = packed_text (record {
   number = number;
   segments = chunk_count (segment_size options) (length bundle.bytes);
@@ -62,21 +64,22 @@ report_line options number bundle = packed_text (record {
 })
 
 -- a line for each bundle; `number` is the number of the first of them
-unfoldable pub report_lines : PackOptions → (number : ℕ) → List Packed → List ℕ
+unfoldable pub report_lines : PackOptions → (number : ℕ) → List BundleWithInfo → List ℕ
 report_lines options number [] = []
 report_lines options number (bundle ∷ more) =
     report_line options number bundle ++ report_lines options (suc number) more
 
 -- ---- the whole input
 
--- the output up to the segments of the last bytes, without SESS_TERM
+-- the output without SESS_TERM: what begins the stream, the transfer of each bundle, and the
+-- segments that are due of the bytes after the last bundle
 abbrev pub bundles_output : PackOptions → Divided → List ℕ
 bundles_output options input =
     prelude_bytes options ++ transfer_bytes options 0 input.bundles
     ++ rest_segments options (length input.bundles) input.rest
 
--- What `pack` makes of an input, by its bundles and what follows them. If no fault stops the input,
--- everything is good. Then `input.rest` is `None`, so the output has whole transfers only.
+-- What `pack` makes of an input, by its bundles and what follows them. `ended` and `good` are about
+-- an input that no fault stops. Its `rest` is `None`, so its output has whole transfers only.
 abbrev pub packing_by : PackOptions → Divided → Made
 packing_by options input = record {
   texts = record {

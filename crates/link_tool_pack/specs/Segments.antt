@@ -16,7 +16,7 @@ segment_bytes id cut chunk =
 
 -- The bytes of a bundle that have come, and the sizes by which they are cut: `segment` is the most
 -- bytes of data in a segment, and `hold` is the greatest length that is announced.
-pub record Sending : Type 0 where
+pub record BundleToCut : Type 0 where
   pub segment : ℕ
   pub hold : ℕ
   -- the bytes, and whether they are a whole bundle
@@ -24,7 +24,7 @@ pub record Sending : Type 0 where
   pub whole : Bool
 
 -- the history of a cutter to which these bytes were pushed, before any chunk is given
-abbrev pub cutting_of : Sending → Cutting
+abbrev pub cutting_of : BundleToCut → Cutting
 cutting_of sending =
     record {
       segment = sending.segment;
@@ -36,7 +36,7 @@ cutting_of sending =
     }
 
 -- the cut of chunk `k`, counted from 0; only the first chunk may announce the length
-abbrev pub cut_at : Sending → (k : ℕ) → Cut
+abbrev pub cut_at : BundleToCut → (k : ℕ) → Cut
 cut_at sending k = record {
   first = k == 0;
   last = sending.whole && (k + 1 == chunk_count sending.segment (length sending.bundle));
@@ -44,21 +44,22 @@ cut_at sending k = record {
 }
 
 -- the segments of `count` chunks, from chunk `k` on, counted from 0
-unfoldable pub segments_from : (id : ℕ) → Sending → (k count : ℕ) → List ℕ
+unfoldable pub segments_from : (id : ℕ) → BundleToCut → (k count : ℕ) → List ℕ
 segments_from id sending k zero = []
 segments_from id sending k (suc count) =
     segment_bytes id (cut_at sending k) (chunk_at sending.segment k sending.bundle)
     ++ segments_from id sending (suc k) count
 
 -- All segments that are due. If the bundle is whole, they are all of its segments. If it is
--- incomplete, they are those of its full chunks, once it is too long to be announced.
-abbrev pub segments_of : (id : ℕ) → Sending → List ℕ
+-- incomplete, they are the segments of its full chunks. But none is due while the bundle's length
+-- may still be announced.
+abbrev pub segments_of : (id : ℕ) → BundleToCut → List ℕ
 segments_of id sending = segments_from id sending 0 (due (cutting_of sending))
 
 -- ---- the segments that a cutter still has to give
 
 -- the bytes and the sizes of this history of a cutter
-abbrev pub sending_of : Cutting → Sending
+abbrev pub sending_of : Cutting → BundleToCut
 sending_of so_far =
     record {
       segment = so_far.segment;
@@ -82,7 +83,8 @@ all_given so_far =
       chunk = None;
     }
 
--- the history of a cutter that has a part of a bundle, and has given all due chunks of it
+-- the history of a cutter to which these bytes of an incomplete bundle were pushed, and which has
+-- given all due chunks
 abbrev pub going : (segment hold : ℕ) → (bundle : List ℕ) → Cutting
 going segment hold bundle = record {
   segment = segment;

@@ -4,7 +4,7 @@
 
 ghost use Rattle.std.specs.Prelude.{ℕ, List};
 ghost use Rattle.link_tool_option_types.specs.declared.pack.PackOptions.{PackOptions};
-ghost use Rattle.link_tool_pack.specs.MoreLaws.{HasTextsOfMore, HasNoMoreBundlesThanBytes, HasLinesFromFirst, SegmentsDifferOnlyInIds};
+ghost use Rattle.link_tool_pack.specs.MoreLaws.{IsPreludeThenPackMore, HasNoMoreBundlesThanBytes, HasLinesFromFirst, SegmentsDifferOnlyInIds};
 ghost use Rattle.link_tool_pack.specs.declared.more.MoreOptions.{MoreOptions};
 
 /// What `pack` writes is the contact header and SESS_INIT, then what `pack_more` writes with the
@@ -13,11 +13,12 @@ ghost use Rattle.link_tool_pack.specs.declared.more.MoreOptions.{MoreOptions};
 /// With another first ID, the segments are the same except for their IDs, if all IDs fit in 64
 /// bits.
 pub fn more_of_pack()
-    ensures packed { (options : PackOptions) (bytes : List ℕ) → HasTextsOfMore options bytes }
+    ensures packed { (options : PackOptions) (bytes : List ℕ)
+        → IsPreludeThenPackMore options bytes }
     ensures moved { SegmentsDifferOnlyInIds }
 {}
 
-/// All IDs fit in 64 bits if the first ID and the length of the input together do.
+/// If the sum of the first ID and the length of the input is below 2^64, all IDs fit in 64 bits.
 ///
 /// An input has no more bundles than bytes. If all IDs fit, the lines of the report have the IDs
 /// from the first one on.

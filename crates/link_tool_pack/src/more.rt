@@ -6,7 +6,7 @@ ghost use Rattle.link_run.specs.NewRun.{IsNewRun};
 ghost use Rattle.link_run.specs.Run.{devices, looks, NoneFailed};
 ghost use Rattle.link_run.specs.WholeRun.{AfterRun};
 ghost use Rattle.link_tool_pack.specs.More.{id_at, more_tool};
-ghost use Rattle.link_tool_pack.specs.Packer.{IsCutterFor};
+ghost use Rattle.link_tool_pack.specs.Packer.{IsNewCutterFor};
 ghost use Rattle.link_tool_pack.specs.PackRun.{LacksMemory};
 
 use crate::packer::write_line;
@@ -59,7 +59,7 @@ fn id_of(options: &MoreOptions, number: u64) -> u64
 
 impl BundleConsumer for MorePacker {
     ghost use Rattle.std.specs.Prelude.{false, not};
-    ghost use Rattle.link_transfer.specs.Cutter.{cut_waits, wanted_by};
+    ghost use Rattle.link_transfer.specs.Cutter.{has_ready_chunk, wanted_by};
     ghost use Rattle.link_tool_pack.specs.Packer.{IsCutterIn};
     ghost use Rattle.link_tool_pack.specs.MoreRun.{more_telling};
 
@@ -69,7 +69,7 @@ impl BundleConsumer for MorePacker {
 
     ghost knows = { λ options more now. IsCutterIn options.pack more.cutter now.begun };
 
-    ghost fits = { λ more. not (cut_waits more.cutter) };
+    ghost fits = { λ more. not (has_ready_chunk more.cutter) };
 
     ghost wants = { λ more. wanted_by more.cutter };
 
@@ -123,7 +123,8 @@ impl BundleConsumer for MorePacker {
         }
     }
 
-    /// Writes the segments that become due with these bytes, the last ones that were accepted.
+    /// Takes the last accepted bytes of a bundle with a fault, and writes the segments that become
+    /// due with them.
     fn stop<W: OutDevice, E: OutDevice>(
         &mut self,
         options: &MoreOptions,
@@ -145,7 +146,7 @@ impl BundleConsumer for MorePacker {
         Ok(())
     }
 
-    /// True: at a bundle with a fault, the run stops.
+    /// Always true, since the run stops at a bundle with a fault.
     fn is_good(&self, _options: &MoreOptions) -> bool {
         true
     }
@@ -164,7 +165,7 @@ pub fn more_run<R: InDevice, W: OutDevice, E: OutDevice>(
     output: W,
     report: E,
 ) -> MoreRun<R, W, E>
-    requires cutter { IsCutterFor options.pack cutter }
+    requires cutter { IsNewCutterFor options.pack cutter }
     requires sound { NoneFailed (looks R.state W.state E.state) (devices reader output report) }
     ensures { IsNewRun ⟦<MoreRun<R, W, E> as Run<R, W, E>>⟧ (more_tool options)
         (devices reader output report) result }
@@ -174,13 +175,13 @@ pub fn more_run<R: InDevice, W: OutDevice, E: OutDevice>(
 
 /// Packs the bundles of an input into a session that is open (RFC 9174), to the end of the run.
 ///
-/// The segments go to the output, and a line for each bundle to the report. Where the run stops,
-/// and its status, are the same as for [`pack`](crate::pack).
+/// The segments go to the output, and a line for each bundle to the report. The run stops where
+/// [`pack`](crate::pack) stops, and has the same status.
 ///
 /// The answer is an error if a device failed, or the input has more than 2^63 - 1 bytes. `memory`
-/// is the result of [`cutter_for`](crate::cutter_for). If it is a refusal, the answer is
+/// is the result of [`cutter_for`](crate::cutter_for). If it is an error, the answer is
 /// [`IoFault::Memory`], and the devices are returned as they were.
-// Not inlined: its frame would lie below the frames of the other tools too.
+// Not inlined. Otherwise its locals would take up stack while the other tools run.
 #[inline(never)]
 pub fn pack_more<R: InDevice, W: OutDevice, E: OutDevice>(
     memory: Result<Cutter, AllocError>,
@@ -189,7 +190,7 @@ pub fn pack_more<R: InDevice, W: OutDevice, E: OutDevice>(
     output: W,
     report: E,
 ) -> RunEnd<R, W, E>
-    requires cutter { IfOk memory (IsCutterFor options.pack) }
+    requires cutter { IfOk memory (IsNewCutterFor options.pack) }
     requires sound { NoneFailed (looks R.state W.state E.state) (devices reader output report) }
     ensures ran { IfOk memory (λ _. AfterRun (looks R.state W.state E.state) (more_tool options)
         (devices reader output report) result) }

@@ -7,8 +7,8 @@ ghost use Rattle.link_run.specs.Run.{devices, looks, NoneFailed};
 ghost use Rattle.link_run.specs.NewRun.{IsNewRun};
 ghost use Rattle.link_run.specs.WholeRun.{AfterRun};
 ghost use Rattle.link_run.specs.Writers.{AfterWrite, on_output, on_report};
-ghost use Rattle.link_run_over_bundle_files.specs.Bundles.{Packed};
-ghost use Rattle.link_tool_pack.specs.Packer.{IsCutterFor};
+ghost use Rattle.link_run_over_bundle_files.specs.Bundles.{BundleWithInfo};
+ghost use Rattle.link_tool_pack.specs.Packer.{IsNewCutterFor};
 ghost use Rattle.link_tool_pack.specs.Packing.{pack_tool, prelude_bytes, end_bytes, report_line, segment_size};
 ghost use Rattle.link_tool_pack.specs.PackRun.{LacksMemory};
 
@@ -54,7 +54,7 @@ fn segment(options: &PackOptions) -> u64
 ///
 /// The request was refused.
 pub fn cutter_for(alloc: Global, options: &PackOptions) -> Result<Cutter, AllocError>
-    ensures { IfOk result (IsCutterFor options.now) }
+    ensures { IfOk result (IsNewCutterFor options.now) }
 {
     Cutter::new(alloc, segment(options) as usize, options.announce as usize)
 }
@@ -73,7 +73,7 @@ impl Packer {
 
 impl BundleConsumer for Packer {
     ghost use Rattle.std.specs.Prelude.{false, not};
-    ghost use Rattle.link_transfer.specs.Cutter.{cut_waits, wanted_by};
+    ghost use Rattle.link_transfer.specs.Cutter.{has_ready_chunk, wanted_by};
     ghost use Rattle.link_tool_pack.specs.Packer.{IsCutterIn};
     ghost use Rattle.link_tool_pack.specs.PackRun.{pack_telling};
 
@@ -83,7 +83,7 @@ impl BundleConsumer for Packer {
 
     ghost knows = { λ options packer now. IsCutterIn options packer.cutter now.begun };
 
-    ghost fits = { λ packer. not (cut_waits packer.cutter) };
+    ghost fits = { λ packer. not (has_ready_chunk packer.cutter) };
 
     ghost wants = { λ packer. wanted_by packer.cutter };
 
@@ -138,7 +138,8 @@ impl BundleConsumer for Packer {
         }
     }
 
-    /// Writes the segments that become due with these bytes, the last ones that were accepted.
+    /// Takes the last accepted bytes of a bundle with a fault, and writes the segments that become
+    /// due with them.
     fn stop<W: OutDevice, E: OutDevice>(
         &mut self,
         _options: &PackOptions,
@@ -158,13 +159,13 @@ impl BundleConsumer for Packer {
         write_end(writers, options, &mut self.head)
     }
 
-    /// True: at a bundle with a fault, the run stops.
+    /// Always true, since the run stops at a bundle with a fault.
     fn is_good(&self, _options: &PackOptions) -> bool {
         true
     }
 }
 
-/// Appends the contact header and SESS_INIT.
+/// Appends the contact header, without flags, and SESS_INIT.
 #[tactic(auto, unfolding(crate::specs::Packing::prelude_bytes))]
 fn put_prelude(head: &mut HeadBuf, options: &PackOptions)
     requires { head.old.items ≡ [] }
@@ -192,7 +193,7 @@ pub(crate) fn write_line<W: OutDevice, E: OutDevice>(
     writers: &mut Writers<W, E>,
 ) -> Result<(), IoFault>
     requires { HasShortNames (viewed_info whole.info) }
-    ensures { (bundle : Packed) → viewed_info whole.entry.info ≡ bundle.info
+    ensures { (bundle : BundleWithInfo) → viewed_info whole.entry.info ≡ bundle.info
         → whole.entry.length ≡ length bundle.bytes
         → AfterWrite W.state E.state writers.old writers.new
         (on_report (report_line options.now number bundle)) result }
@@ -221,6 +222,7 @@ fn write_end<W: OutDevice, E: OutDevice>(
         return Ok(());
     }
     head.clear();
+    // The message has no flags, and the reason 0.
     put_sess_term(head, 0, 0);
     writers.write_output(head.as_slice())
 }
@@ -238,7 +240,7 @@ pub fn pack_run<R: InDevice, W: OutDevice, E: OutDevice>(
     output: W,
     report: E,
 ) -> PackRun<R, W, E>
-    requires cutter { IsCutterFor options cutter }
+    requires cutter { IsNewCutterFor options cutter }
     requires sound { NoneFailed (looks R.state W.state E.state) (devices reader output report) }
     ensures { IsNewRun ⟦<PackRun<R, W, E> as Run<R, W, E>>⟧ (pack_tool options)
         (devices reader output report) result }
@@ -248,14 +250,14 @@ pub fn pack_run<R: InDevice, W: OutDevice, E: OutDevice>(
 
 /// Packs the bundles of an input into the stream of a sender (RFC 9174), to the end of the run.
 ///
-/// The stream goes to the output, and a line for each bundle to the report. The run stops at the
-/// first byte that shows a fault of a bundle, or that a bundle is longer than the peer takes. Then
+/// The stream goes to the output, and a line for each bundle to the report. The run stops where a
+/// bundle shows a fault, is longer than the peer takes, or is cut short by the input's end. Then
 /// the report ends with the line of that fault, and the status is 3. Otherwise the status is 0.
 ///
 /// The answer is an error if a device failed, or the input has more than 2^63 - 1 bytes. `memory`
-/// is the result of [`cutter_for`](crate::cutter_for). If it is a refusal, the answer is
+/// is the result of [`cutter_for`](crate::cutter_for). If it is an error, the answer is
 /// [`IoFault::Memory`], and the devices are returned as they were.
-// Not inlined: its frame would lie below the frames of the other tools too.
+// Not inlined. Otherwise its locals would take up stack while the other tools run.
 #[inline(never)]
 pub fn pack<R: InDevice, W: OutDevice, E: OutDevice>(
     memory: Result<Cutter, AllocError>,
@@ -264,7 +266,7 @@ pub fn pack<R: InDevice, W: OutDevice, E: OutDevice>(
     output: W,
     report: E,
 ) -> RunEnd<R, W, E>
-    requires cutter { IfOk memory (IsCutterFor options) }
+    requires cutter { IfOk memory (IsNewCutterFor options) }
     requires sound { NoneFailed (looks R.state W.state E.state) (devices reader output report) }
     ensures ran { IfOk memory (λ _. AfterRun (looks R.state W.state E.state) (pack_tool options)
         (devices reader output report) result) }

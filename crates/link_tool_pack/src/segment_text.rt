@@ -87,8 +87,8 @@ fn put_number(page: &mut [u8], at: usize, number: u64) -> usize
     copy_into(page, at, &number.to_be_bytes())
 }
 
-/// Writes the extension list of a first segment, which announces the length or is empty, in 17
-/// bytes or in 4. Any other segment has no list.
+/// Writes the extension list of a first segment. If the list announces the length, it has 17 bytes.
+/// If it is empty, it has 4. Any other segment has no list, so nothing is written.
 #[inline(always)]
 #[tactic(auto, unfolding(link_wire::specs::Spelling::announce_bytes))]
 fn put_list(page: &mut [u8], at: usize, first: bool, announce: Option<u64>) -> usize

@@ -3,7 +3,7 @@
 ghost use Rattle.std.specs.Prelude.{◌≡◌, ◌≤◌, false, length, OnOk};
 ghost use Rattle.link_run.specs.Writers.{AfterWrite, on_output};
 ghost use Rattle.link_transfer.specs.Cutting.{Cutting, with_bytes};
-ghost use Rattle.link_transfer.specs.Cutter.{IsCutterAt, cut_waits, wanted_by};
+ghost use Rattle.link_transfer.specs.Cutter.{IsCutterAt, has_ready_chunk, wanted_by};
 ghost use Rattle.link_tool_pack.specs.PackRun.{Sends};
 ghost use Rattle.link_tool_pack.specs.Segments.{segment_bytes};
 
@@ -14,7 +14,7 @@ use link_wire::{IoFault, OutDevice};
 
 /// Writes a chunk as a segment of the transfer with this ID.
 ///
-/// A short chunk is written in one go with its head.
+/// A short chunk is written in one go with the head of the segment.
 #[inline(always)]
 fn write_segment<W: OutDevice, E: OutDevice>(
     id: u64,
@@ -53,7 +53,7 @@ fn write_segments<W: OutDevice, E: OutDevice>(
 ) -> Result<(), IoFault>
     ensures gives { (so_far : Cutting) → IsCutterAt cutter.old so_far
         → Sends W.state E.state id so_far writers.old writers.new cutter.new result }
-    ensures quiet { OnOk result (cut_waits cutter.new ≡ false) }
+    ensures quiet { OnOk result (has_ready_chunk cutter.new ≡ false) }
 {
     while let Some(cut) = cutter.cut() {
         write_segment(id, cut, cutter.bytes(), writers)?;
@@ -73,12 +73,12 @@ pub fn write_run<W: OutDevice, E: OutDevice>(
     cutter: &mut Cutter,
     writers: &mut Writers<W, E>,
 ) -> Result<(), IoFault>
-    requires quiet { cut_waits cutter.old ≡ false }
+    requires quiet { has_ready_chunk cutter.old ≡ false }
     ensures gives { (so_far : Cutting) → IsCutterAt cutter.old so_far
         → length run.now ≤ wanted_by cutter.old
         → Sends W.state E.state id (with_bytes run.now last so_far) writers.old writers.new
         cutter.new result }
-    ensures quiet { OnOk result (cut_waits cutter.new ≡ false) }
+    ensures quiet { OnOk result (has_ready_chunk cutter.new ≡ false) }
 {
     match cutter.cut_slice(run, last) {
         Some(cut) => write_segment(id, cut, run, writers),

@@ -6,7 +6,8 @@ use Rattle.link_run_judge.specs.Unpacking.{part_of, parts_of}
 use Rattle.link_tool_unpack.specs.declared.transfer.TransferScan.{TransferScan}
 use Rattle.link_tool_option_types.specs.declared.wanted.Wanted.{Wanted}
 
--- the scan has taken the data of `transfer` so far, which comes after the transfers `earlier`
+-- The scan has taken the data of `transfer` so far, after the transfers `earlier`. `start` is the
+-- number of bytes in the output of `earlier`, and `written` in the output of `transfer`.
 pub record IsTransferScanAt (wanted : Wanted) (now : TransferScan) (transfer : Transfer)
     (earlier : List Transfer) : Type 0 where
   pub judging : IsTransferJudgeAt now.judge transfer

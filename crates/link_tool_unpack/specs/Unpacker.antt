@@ -17,7 +17,9 @@ pub record IsTransferScanAtLatest (wanted : Wanted) (latest : TransferScan) (is_
   pub opened : is_open ≡ not transfer.closed
   pub follows : IsTransferScanAt wanted latest transfer earlier
 
--- the unpacker has had exactly these events; while no transfer is open, its judge does not matter
+-- The unpacker has had exactly these events. Its scan has counted the bytes of the output (`sum`),
+-- and no more data than has come (`total`). The rest of the scan matters only while a transfer is
+-- open.
 pub record IsUnpackerAt (wanted : Wanted) (now : Unpacker) (events : List WalkEvent) : Type 0 where
   pub sum : now.latest.start + now.latest.written
       ≡ length (parts_of wanted (told_after wanted events).transfers)

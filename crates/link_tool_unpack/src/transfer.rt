@@ -28,7 +28,7 @@ impl TransferScan {
     ghost use Rattle.std.specs.Prelude.{true, not, ◌++◌, List, ℕ};
     ghost use Rattle.link_report.specs.Transfer.{transfer_text, viewed_transfer};
     ghost use Rattle.link_wire.specs.Codes.{is_start};
-    ghost use Rattle.link_wire.specs.MessageBuffer.{SegmentTotalsFit, message_of};
+    ghost use Rattle.link_wire.specs.MessageBuffer.{IfSegmentItemsHaveTotals, message_of};
     ghost use Rattle.link_wire.specs.declared.message.Message.{Message};
     ghost use Rattle.link_wire.specs.declared.message.SegmentHead.{SegmentHead};
     ghost use Rattle.link_bundle.specs.Scan.{HasJudged};
@@ -57,7 +57,7 @@ impl TransferScan {
     ///
     /// The contract holds for any `wanted`, whether the transfer is `closed` or not.
     pub fn begin(&mut self, message: &MessageBuffer)
-        requires { SegmentTotalsFit message.now }
+        requires { IfSegmentItemsHaveTotals message.now }
         ensures follows { (wanted : Wanted) (head : SegmentHead) (closed : _)
             (earlier : List Transfer)
             → message_of message.now ≡ Message.Segment head → is_start head.flags ≡ true
@@ -97,9 +97,10 @@ impl TransferScan {
         part
     }
 
-    /// The bytes to be written of a piece, the last that the judge has seen.
+    /// The bytes to be written of a piece that the judge has just taken.
     ///
-    /// The contract holds for any `closed`.
+    /// In the contract, `transfer` is the transfer without the piece. The contract holds for any
+    /// `closed`.
     fn part<'a>(&self, wanted: &Wanted, piece: &'a [u8]) -> &'a [u8]
         requires { length piece.now ≤ self.now.judge.size }
         ensures part { (transfer : Transfer) (closed : _)

@@ -171,8 +171,9 @@ pub fn unpack_run<R: InDevice, W: OutDevice, E: OutDevice>(
 /// report ends with the line of the fault, and the status is 3. Otherwise the status is 1 if a
 /// transfer is not good or a message was not in order, and else 0.
 ///
-/// A message that is not in order stops the stream, unless [`Wanted::keep_going`] is set. Then the
-/// report has its line before the lines of the transfers that it abandons or closes.
+/// Without [`Wanted::keep_going`], a message that is not in order stops the stream. With it, the
+/// report has a line for such a message, before the lines of the transfers that the message
+/// abandons or closes.
 ///
 /// The answer is an error if a device failed, or the input has more than 2^63 - 1 bytes.
 #[inline(never)]

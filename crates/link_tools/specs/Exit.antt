@@ -4,7 +4,7 @@ use Rattle.link_wire.specs.declared.IoFault.{IoFault}
 use Rattle.link_wire.specs.declared.IoFault.TheVariants.{Read, InputTooLong, Write, Memory}
 use Rattle.link_run.specs.declared.run.Status.{Status}
 
--- the exit status: that of the run, or 4 if the run failed
+-- the exit status: the status of the run, or 4 if the run failed
 abbrev pub status_of : Result Status IoFault → ℕ
 status_of (Ok status) = status.0
 status_of (Err fault) = 4

@@ -12,7 +12,7 @@ use Rattle.link_tool_blocks.specs.Bundles.{bundle_blocks_tool}
 use Rattle.link_tool_check.specs.Checking.{check_tool}
 use Rattle.link_tool_check.specs.Bundles.{bundle_check_tool}
 use Rattle.link_tool_pack.specs.Packing.{pack_tool}
-use Rattle.link_tool_pack.specs.Packer.{IsCutterFor}
+use Rattle.link_tool_pack.specs.Packer.{IsNewCutterFor}
 use Rattle.link_tool_pack.specs.PackRun.{LacksMemory}
 use Rattle.link_tools.specs.declared.options.Job.{Job}
 use Rattle.link_tools.specs.declared.options.Job.TheVariants as job
@@ -29,11 +29,11 @@ options_of (job.Pack options memory) = chosen.Pack options
 
 -- `pack` has a new cutter for its options, or its request for memory was refused. The other tools
 -- are always ready.
-abbrev pub IsReady : Job → Type 0
-IsReady (job.Pack options memory) = IfOk memory (IsCutterFor options)
-IsReady _ = ⊤
+abbrev pub IfPackHasNewCutter : Job → Type 0
+IfPackHasNewCutter (job.Pack options memory) = IfOk memory (IsNewCutterFor options)
+IfPackHasNewCutter _ = ⊤
 
--- The tool of a job that has the memory that it needs. Only the request of `pack` may be refused.
+-- The tool of a job, or `None` if its request for memory was refused. Only `pack` makes a request.
 abbrev pub job_tool : Job → Option Tool
 job_tool job.List = Some list_tool
 job_tool (job.Unpack wanted) = Some (unpack_tool wanted)

@@ -2,7 +2,7 @@
 
 ghost use Rattle.std.specs.Prelude.{◌≡◌};
 ghost use Rattle.link_run.specs.Run.{devices, looks, NoneFailed};
-ghost use Rattle.link_tools.specs.Options.{AfterJob, IsReady, options_of};
+ghost use Rattle.link_tools.specs.Options.{AfterJob, IfPackHasNewCutter, options_of};
 
 use link_run::RunEnd;
 use link_tool_blocks::{blocks, bundle_blocks};
@@ -40,7 +40,7 @@ impl Job {
     /// Only `pack` requests memory: one request, which is made here.
     pub fn new(alloc: Global, options: Options) -> Job
         ensures options { options_of result ≡ options }
-        ensures ready { IsReady result }
+        ensures ready { IfPackHasNewCutter result }
     {
         match options {
             Options::List => Job::List,
@@ -67,7 +67,7 @@ pub fn run_tool<R: InDevice, W: OutDevice, E: OutDevice>(
     output: W,
     report: E,
 ) -> RunEnd<R, W, E>
-    requires ready { IsReady job }
+    requires ready { IfPackHasNewCutter job }
     requires sound { NoneFailed (looks R.state W.state E.state) (devices reader output report) }
     ensures { AfterJob (looks R.state W.state E.state) job (devices reader output report) result }
 {

@@ -13,8 +13,8 @@ use Rattle.clap.specs.declared.parser.matches.ArgMatches.{ArgMatches}
 use Rattle.clap.specs.declared.error.{Error.Error, kind.{ErrorKind.ErrorKind, ErrorKind.TheVariants.OutOfMemory}}
 use Rattle.clap.proofs.WalkLemmas.{both}
 use Rattle.link_tools_command.proofs.Stopped.{StopsElsewhere, first_empty, not_help, walk_stops}
-use Rattle.link_tools_command.specs.Usage.{AreValidWords, IsFaultOf, is_request}
-use Rattle.link_tools_command.specs.Reading.{IsUsageFaultOf, IsToolName, HasToolName, IsFaultForKind}
+use Rattle.link_tools_command.specs.Usage.{AreValidWords, MayBeFaultOfWords, is_request}
+use Rattle.link_tools_command.specs.Reading.{MayBeFaultOfMatches, IsToolName, HasToolName, MayBeFaultOfClapError}
 use Rattle.link_tools_command.specs.declared.usage.UsageFault.{UsageFault}
 use Rattle.link_tools_command.specs.declared.usage.UsageFault.TheVariants.{Help, Words, Memory}
 
@@ -117,14 +117,14 @@ parsed command words m is fails has from =
     )
 
 pub tool_fault : (words : List Text) → AreValidWords words → (fault : UsageFault)
-    → IsUsageFaultOf (subcommand_of table words) fault → IsFaultOf words fault
+    → MayBeFaultOfMatches (subcommand_of table words) fault → MayBeFaultOfWords words fault
 tool_fault words taken fault (inl long) = rw long.0 (taken, long.1)
 tool_fault words taken fault (inr (inl mixed)) = rw mixed.0 (taken, mixed.1)
 tool_fault words taken fault (inr (inr (inl limited))) = rw limited.0 (taken, limited.1)
 tool_fault words taken fault (inr (inr (inr memory))) = rw memory tt
 
-pub clap_fault : (words : List Text) (kind : ErrorKind) (fault : UsageFault) → IsFaultForKind kind fault
-    → (kind ≡ OutOfMemory) ⊎ IsAmong kind (fault_of table words) → IsFaultOf words fault
+pub clap_fault : (words : List Text) (kind : ErrorKind) (fault : UsageFault) → MayBeFaultOfClapError kind fault
+    → (kind ≡ OutOfMemory) ⊎ IsAmong kind (fault_of table words) → MayBeFaultOfWords words fault
 clap_fault words kind (Help text) stands (inl memory) =
     absurd (true≢false (sym stands ∙ ap is_request memory))
 clap_fault words kind (Help text) stands (inr among) = (kind, among, stands)

@@ -38,7 +38,8 @@ number_of limit name rows = unwrap_or (number_in limit name rows) 0
 unfoldable pub is_set : (name : Text) → List Row → Bool
 is_set name rows = option_map_or (λ text. bytes_eq text (codes "true")) (first_of name rows) false
 
--- the value of a required option; it is empty without the option, which `clap` refuses
+-- The value of a required option. It is empty if the option is missing, but `clap` refuses such
+-- words.
 unfoldable pub text_of : (name : Text) → List Row → Text
 text_of name rows = unwrap_or (first_of name rows) []
 
@@ -107,15 +108,15 @@ AreOptions name rows (options.BundleCheck must) = (name ≡ codes "check")
 AreOptions name rows (options.Pack packing) = (name ≡ codes "pack") × IsPackOptions rows packing
 
 -- the invocation is that of the tool `name`; `rows` are what `clap` matched of its arguments
-pub record IsInvokedBy (name : Text) (rows : List Row) (invocation : Invocation) : Type 0 where
+pub record IsInvocationBy (name : Text) (rows : List Row) (invocation : Invocation) : Type 0 where
   pub options : AreOptions name rows invocation.options
   pub file : option_map string_bytes invocation.file ≡ first_of (codes "file") rows
 
 -- this is the invocation of a tool, by its name and its matches; without a tool there is none
-abbrev pub IsInvokedByTool : Option (Text × List Row) → Invocation → Type 0
-IsInvokedByTool None invocation = ⊥
-IsInvokedByTool (Some tool) invocation = IsInvokedBy tool.0 tool.1 invocation
+abbrev pub IsInvocationOfTool : Option (Text × List Row) → Invocation → Type 0
+IsInvocationOfTool None invocation = ⊥
+IsInvocationOfTool (Some tool) invocation = IsInvocationBy tool.0 tool.1 invocation
 
 -- This is the invocation that the words ask for. The first word is the program's own name.
-abbrev pub IsInvoked : (words : List Text) → Invocation → Type 0
-IsInvoked words = IsInvokedByTool (subcommand_of table words)
+abbrev pub IsInvocationByWords : (words : List Text) → Invocation → Type 0
+IsInvocationByWords words = IsInvocationOfTool (subcommand_of table words)

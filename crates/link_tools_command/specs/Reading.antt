@@ -17,16 +17,17 @@ abbrev pub HasToolName : Option (Text × List Row) → Type 0
 HasToolName None = ⊥
 HasToolName (Some tool) = IsToolName tool.0
 
--- whether a fault may be returned for the matches of a tool
-abbrev pub IsUsageFaultOf : Option (Text × List Row) → UsageFault → Type 0
-IsUsageFaultOf tool fault = ((fault ≡ NodeTooLong) × (1024 < length (node_of tool)))
+-- whether a fault may be returned for the matches of a tool; `Memory` may be returned for any
+abbrev pub MayBeFaultOfMatches : Option (Text × List Row) → UsageFault → Type 0
+MayBeFaultOfMatches tool fault = ((fault ≡ NodeTooLong) × (1024 < length (node_of tool)))
     ⊎ (((fault ≡ MixedInputs) × (mixes_inputs_of tool ≡ true))
     ⊎ (((fault ≡ LimitedBundles) × (limits_bundles_of tool ≡ true)) ⊎ (fault ≡ Memory)))
 
 -- Whether a fault may be returned for an error of `clap` of this kind. `Memory` may be returned for
--- any kind, and the other faults for none.
-abbrev pub IsFaultForKind : ErrorKind → UsageFault → Type 0
-IsFaultForKind kind (Help text) = is_request kind ≡ true
-IsFaultForKind kind (Words text) = (is_request kind ≡ false) × (kind ≡ OutOfMemory → ⊥)
-IsFaultForKind kind Memory = ⊤
-IsFaultForKind kind _ = ⊥
+-- any kind, and no other fault for `OutOfMemory`. The faults that `clap` does not find are returned
+-- for no kind.
+abbrev pub MayBeFaultOfClapError : ErrorKind → UsageFault → Type 0
+MayBeFaultOfClapError kind (Help text) = is_request kind ≡ true
+MayBeFaultOfClapError kind (Words text) = (is_request kind ≡ false) × (kind ≡ OutOfMemory → ⊥)
+MayBeFaultOfClapError kind Memory = ⊤
+MayBeFaultOfClapError kind _ = ⊥

@@ -18,9 +18,9 @@ is_request DisplayVersion = true
 is_request _ = false
 
 -- `clap` finds an error in the words, and `is_kind` returns `expected` for its kind
-abbrev pub HasErrorOf : (is_kind : ErrorKind → Bool) → (expected : Bool) → (words : List Text)
+abbrev pub HasErrorOfKind : (is_kind : ErrorKind → Bool) → (expected : Bool) → (words : List Text)
     → Type 0
-HasErrorOf is_kind expected words =
+HasErrorOfKind is_kind expected words =
     (kind : ErrorKind) × IsAmong kind (fault_of table words) × (is_kind kind ≡ expected)
 
 -- `clap` finds no error in the words
@@ -40,16 +40,16 @@ abbrev pub limits_bundles_of : (tool : Option (Text × List Row)) → Bool
 limits_bundles_of tool = option_map_or (λ t. limits_bundles t.1) tool false
 
 -- whether a fault may be returned for these words; `Memory` may be returned for any
-abbrev pub IsFaultOf : (words : List Text) → UsageFault → Type 0
-IsFaultOf words (Help text) = HasErrorOf is_request true words
-IsFaultOf words (Words text) = HasErrorOf is_request false words
-IsFaultOf words NodeTooLong =
+abbrev pub MayBeFaultOfWords : (words : List Text) → UsageFault → Type 0
+MayBeFaultOfWords words (Help text) = HasErrorOfKind is_request true words
+MayBeFaultOfWords words (Words text) = HasErrorOfKind is_request false words
+MayBeFaultOfWords words NodeTooLong =
     AreValidWords words × (1024 < length (node_of (subcommand_of table words)))
-IsFaultOf words MixedInputs =
+MayBeFaultOfWords words MixedInputs =
     AreValidWords words × (mixes_inputs_of (subcommand_of table words) ≡ true)
-IsFaultOf words LimitedBundles =
+MayBeFaultOfWords words LimitedBundles =
     AreValidWords words × (limits_bundles_of (subcommand_of table words) ≡ true)
-IsFaultOf words Memory = ⊤
+MayBeFaultOfWords words Memory = ⊤
 
 -- ---- the end of the program
 

@@ -3,7 +3,7 @@
 
 ghost use Rattle.std.specs.Prelude.{◌≡◌, [], ◌∷◌, codes, IfOk, true};
 ghost use Rattle.clap.specs.Words.{app_of};
-ghost use Rattle.link_tools_command.specs.Building.{AddsRules, HasRule, IsToolOfShape};
+ghost use Rattle.link_tools_command.specs.Building.{AddsArguments, IsLocalArgOfRule, IsCommandOfShape};
 ghost use Rattle.link_tools_command.specs.Table.{any_u16, any_u64, blocks_words, check_words, file, flag, list_words, number, number_or, one_or_more, option, pack_words, program, table, tool, unpack_words, up_to_1048576};
 
 use clap::builder::ValueParser;
@@ -179,14 +179,14 @@ fn program<'a>(alloc: Global) -> Command<'a>
 /// Makes the command of the tool `list`.
 #[tactic(auto, using(crate::proofs::Builds::tools), unfolding(crate::specs::Table::list_words))]
 fn list_command<'a>(alloc: Global) -> Result<Command<'a>, AllocError>
-    ensures { IfOk result (IsToolOfShape list_words) }
+    ensures { IfOk result (IsCommandOfShape list_words) }
 {
     tool(alloc, "list", LIST_ABOUT, LIST_HELP).arg(file(alloc))
 }
 
 /// Makes the command of the tool `unpack`.
 fn unpack_command<'a>(alloc: Global) -> Result<Command<'a>, AllocError>
-    ensures { IfOk result (IsToolOfShape unpack_words) }
+    ensures { IfOk result (IsCommandOfShape unpack_words) }
 {
     let tool = tool(alloc, "unpack", UNPACK_ABOUT, UNPACK_HELP);
     let one = with_selection(alloc, tool)?;
@@ -196,7 +196,7 @@ fn unpack_command<'a>(alloc: Global) -> Result<Command<'a>, AllocError>
 
 /// Adds the options of `unpack` that select the data: `--transfer` and `--payload`.
 fn with_selection<'a>(alloc: Global, tool: Command<'a>) -> Result<Command<'a>, AllocError>
-    ensures { IfOk result (AddsRules (
+    ensures { IfOk result (AddsArguments (
         number (codes "transfer") any_u64
         ∷ flag (codes "payload")
         ∷ []) tool.entry) }
@@ -212,7 +212,7 @@ fn with_selection<'a>(alloc: Global, tool: Command<'a>) -> Result<Command<'a>, A
 
 /// Makes the command of the tool `blocks`.
 fn blocks_command<'a>(alloc: Global) -> Result<Command<'a>, AllocError>
-    ensures { IfOk result (IsToolOfShape blocks_words) }
+    ensures { IfOk result (IsCommandOfShape blocks_words) }
 {
     let tool = tool(alloc, "blocks", BLOCKS_ABOUT, BLOCKS_HELP);
     let one = with_shown(alloc, tool)?;
@@ -222,7 +222,7 @@ fn blocks_command<'a>(alloc: Global) -> Result<Command<'a>, AllocError>
 
 /// Adds the options of `blocks` for recordings: `--transfer` and `--keep-going`.
 fn with_shown<'a>(alloc: Global, tool: Command<'a>) -> Result<Command<'a>, AllocError>
-    ensures { IfOk result (AddsRules (
+    ensures { IfOk result (AddsArguments (
         number (codes "transfer") any_u64
         ∷ flag (codes "keep-going")
         ∷ []) tool.entry) }
@@ -237,7 +237,7 @@ fn with_shown<'a>(alloc: Global, tool: Command<'a>) -> Result<Command<'a>, Alloc
 
 /// Makes the command of the tool `check`.
 fn check_command<'a>(alloc: Global) -> Result<Command<'a>, AllocError>
-    ensures { IfOk result (IsToolOfShape check_words) }
+    ensures { IfOk result (IsCommandOfShape check_words) }
 {
     let tool = tool(alloc, "check", CHECK_ABOUT, CHECK_HELP);
     let one = with_judged(alloc, tool)?;
@@ -247,7 +247,7 @@ fn check_command<'a>(alloc: Global) -> Result<Command<'a>, AllocError>
 
 /// Adds the options of `check` for the rules that are judged.
 fn with_judged<'a>(alloc: Global, tool: Command<'a>) -> Result<Command<'a>, AllocError>
-    ensures { IfOk result (AddsRules (
+    ensures { IfOk result (AddsArguments (
         flag (codes "must")
         ∷ number (codes "peer-segment") any_u64
         ∷ number (codes "peer-transfer") any_u64
@@ -274,7 +274,7 @@ fn with_judged<'a>(alloc: Global, tool: Command<'a>) -> Result<Command<'a>, Allo
 /// Makes the command of the tool `pack`.
 #[tactic(auto, using(crate::proofs::Builds::tools), unfolding(crate::specs::Table::pack_words))]
 fn pack_command<'a>(alloc: Global) -> Result<Command<'a>, AllocError>
-    ensures { IfOk result (IsToolOfShape pack_words) }
+    ensures { IfOk result (IsCommandOfShape pack_words) }
 {
     let tool = tool(alloc, "pack", PACK_ABOUT, PACK_HELP);
     let one = with_sender(alloc, tool)?;
@@ -284,7 +284,7 @@ fn pack_command<'a>(alloc: Global) -> Result<Command<'a>, AllocError>
 
 /// Adds the options of `pack` for the sender: node ID, keepalive interval and segment MRU.
 fn with_sender<'a>(alloc: Global, tool: Command<'a>) -> Result<Command<'a>, AllocError>
-    ensures { IfOk result (AddsRules (
+    ensures { IfOk result (AddsArguments (
         record (option (codes "node")) { required = true }
         ∷ number_or (codes "keepalive") any_u16 (codes "60")
         ∷ number_or (codes "segment-mru") any_u64 (codes "65536")
@@ -297,7 +297,7 @@ fn with_sender<'a>(alloc: Global, tool: Command<'a>) -> Result<Command<'a>, Allo
 
 /// Adds the options of `pack` for the sender's transfer MRU and for the limits of the peer.
 fn with_limits<'a>(alloc: Global, tool: Command<'a>) -> Result<Command<'a>, AllocError>
-    ensures { IfOk result (AddsRules (
+    ensures { IfOk result (AddsArguments (
         number_or (codes "transfer-mru") any_u64 (codes "1048576")
         ∷ number_or (codes "peer-segment") one_or_more (codes "65536")
         ∷ number_or (codes "peer-transfer") any_u64 (codes "18446744073709551615")
@@ -308,9 +308,9 @@ fn with_limits<'a>(alloc: Global, tool: Command<'a>) -> Result<Command<'a>, Allo
     two.arg(peer_transfer(alloc))
 }
 
-/// Adds the options of `pack` for announced lengths and for SESS_TERM, and its input.
+/// Adds the options of `pack` for announced lengths and for SESS_TERM, and the argument `[FILE]`.
 fn with_form<'a>(alloc: Global, tool: Command<'a>) -> Result<Command<'a>, AllocError>
-    ensures { IfOk result (AddsRules (
+    ensures { IfOk result (AddsArguments (
         number_or (codes "announce") up_to_1048576 (codes "0")
         ∷ flag (codes "end")
         ∷ file
@@ -330,7 +330,7 @@ fn with_form<'a>(alloc: Global, tool: Command<'a>) -> Result<Command<'a>, AllocE
 
 /// Makes the argument for the option `--transfer` of `unpack` and `blocks`.
 fn transfer<'a>(alloc: Global, help: &'a str) -> Arg<'a>
-    ensures { HasRule (number (codes "transfer") any_u64) result }
+    ensures { IsLocalArgOfRule (number (codes "transfer") any_u64) result }
 {
     let transfer = number(alloc, "transfer", any_u64(), help);
     transfer.value_name("ID")
@@ -338,7 +338,7 @@ fn transfer<'a>(alloc: Global, help: &'a str) -> Arg<'a>
 
 /// Makes the argument for the flag `--keep-going` of `unpack` and `blocks`.
 fn keep_going<'a>(alloc: Global) -> Arg<'a>
-    ensures { HasRule (flag (codes "keep-going")) result }
+    ensures { IsLocalArgOfRule (flag (codes "keep-going")) result }
 {
     flag(
         alloc,
@@ -349,7 +349,7 @@ fn keep_going<'a>(alloc: Global) -> Arg<'a>
 
 /// Makes the argument for the flag `--bundles` of `blocks` and `check`.
 fn bundles<'a>(alloc: Global) -> Arg<'a>
-    ensures { HasRule (flag (codes "bundles")) result }
+    ensures { IsLocalArgOfRule (flag (codes "bundles")) result }
 {
     flag(
         alloc,
@@ -360,7 +360,7 @@ fn bundles<'a>(alloc: Global) -> Arg<'a>
 
 /// Makes the argument for the option `--node` of `pack`.
 fn node<'a>(alloc: Global) -> Arg<'a>
-    ensures { HasRule (record (option (codes "node")) { required = true }) result }
+    ensures { IsLocalArgOfRule (record (option (codes "node")) { required = true }) result }
 {
     let node = option(
         alloc,
@@ -373,7 +373,7 @@ fn node<'a>(alloc: Global) -> Arg<'a>
 
 /// Makes the argument for the option `--keepalive` of `pack`.
 fn keepalive<'a>(alloc: Global) -> Arg<'a>
-    ensures { HasRule (number_or (codes "keepalive") any_u16 (codes "60")) result }
+    ensures { IsLocalArgOfRule (number_or (codes "keepalive") any_u16 (codes "60")) result }
 {
     let keepalive = number(
         alloc,
@@ -386,7 +386,7 @@ fn keepalive<'a>(alloc: Global) -> Arg<'a>
 
 /// Makes the argument for the option `--segment-mru` of `pack`.
 fn segment_mru<'a>(alloc: Global) -> Arg<'a>
-    ensures { HasRule (number_or (codes "segment-mru") any_u64 (codes "65536")) result }
+    ensures { IsLocalArgOfRule (number_or (codes "segment-mru") any_u64 (codes "65536")) result }
 {
     let segment_mru = number(
         alloc,
@@ -399,7 +399,7 @@ fn segment_mru<'a>(alloc: Global) -> Arg<'a>
 
 /// Makes the argument for the option `--transfer-mru` of `pack`.
 fn transfer_mru<'a>(alloc: Global) -> Arg<'a>
-    ensures { HasRule (number_or (codes "transfer-mru") any_u64 (codes "1048576")) result }
+    ensures { IsLocalArgOfRule (number_or (codes "transfer-mru") any_u64 (codes "1048576")) result }
 {
     let transfer_mru = number(
         alloc,
@@ -412,7 +412,8 @@ fn transfer_mru<'a>(alloc: Global) -> Arg<'a>
 
 /// Makes the argument for the option `--peer-segment` of `pack`.
 fn peer_segment<'a>(alloc: Global) -> Arg<'a>
-    ensures { HasRule (number_or (codes "peer-segment") one_or_more (codes "65536")) result }
+    ensures { IsLocalArgOfRule
+        (number_or (codes "peer-segment") one_or_more (codes "65536")) result }
 {
     let peer_segment = number(
         alloc,
@@ -425,7 +426,7 @@ fn peer_segment<'a>(alloc: Global) -> Arg<'a>
 
 /// Makes the argument for the option `--peer-transfer` of `pack`.
 fn peer_transfer<'a>(alloc: Global) -> Arg<'a>
-    ensures { HasRule (
+    ensures { IsLocalArgOfRule (
         number_or (codes "peer-transfer") any_u64 (codes "18446744073709551615")) result }
 {
     let peer_transfer = number(
@@ -439,14 +440,14 @@ fn peer_transfer<'a>(alloc: Global) -> Arg<'a>
 
 /// Makes a tool without its arguments; `about` and `help` are texts of its `--help`.
 fn tool<'a>(alloc: Global, name: &'a str, about: &'a str, help: &'a str) -> Command<'a>
-    ensures { IsToolOfShape (tool name.entry.now []) result }
+    ensures { IsCommandOfShape (tool name.entry.now []) result }
 {
     Command::new(alloc, name).about(about).after_help(help)
 }
 
 /// Makes the argument `[FILE]`.
 fn file<'a>(alloc: Global) -> Arg<'a>
-    ensures { HasRule file result }
+    ensures { IsLocalArgOfRule file result }
 {
     Arg::new(alloc, "file")
         .value_name("FILE")
@@ -455,7 +456,7 @@ fn file<'a>(alloc: Global) -> Arg<'a>
 
 /// Makes a flag `--NAME`.
 fn flag<'a>(alloc: Global, name: &'a str, help: &'a str) -> Arg<'a>
-    ensures { HasRule (flag name.entry.now) result }
+    ensures { IsLocalArgOfRule (flag name.entry.now) result }
 {
     Arg::new(alloc, name)
         .long(name)
@@ -463,9 +464,9 @@ fn flag<'a>(alloc: Global, name: &'a str, help: &'a str) -> Arg<'a>
         .help(help)
 }
 
-/// Makes an option `--NAME VALUE`; `value` is the word for its value in the help text.
+/// Makes an option `--NAME VALUE`. `value` is the word that the help text shows for VALUE.
 fn option<'a>(alloc: Global, name: &'a str, value: &'a str, help: &'a str) -> Arg<'a>
-    ensures { HasRule (option name.entry.now) result }
+    ensures { IsLocalArgOfRule (option name.entry.now) result }
 {
     Arg::new(alloc, name)
         .long(name)
@@ -475,7 +476,7 @@ fn option<'a>(alloc: Global, name: &'a str, value: &'a str, help: &'a str) -> Ar
 
 /// Makes an option `--NAME N`, whose value is a number in this range.
 fn number<'a>(alloc: Global, name: &'a str, range: ValueParser<'a>, help: &'a str) -> Arg<'a>
-    ensures { HasRule (number name.entry.now range.entry) result }
+    ensures { IsLocalArgOfRule (number name.entry.now range.entry) result }
 {
     option(alloc, name, "N", help).value_parser(range)
 }

@@ -3,9 +3,9 @@
 ghost use Rattle.std.specs.Prelude.{◌≡◌, ◌^◌, ◌<◌, ◌⊎◌, codes, length, map, option_map, string_bytes, true, IfErr, IfNone, IfOk, IfSome, Some};
 ghost use Rattle.clap.specs.Words.{first_of, found_of, kind_of, rows_of, subcommand_rows_of, takes};
 ghost use Rattle.link_tools_command.specs.Table.{table};
-ghost use Rattle.link_tools_command.specs.Invoked.{AreOptions, IsInvoked, IsInvokedBy, IsInvokedByTool, IsPackOptions, IsUnpackOptions, has_peer_limit, is_for_recordings, is_set, limits_bundles, mixes_inputs, number_in, number_of, text_of};
-ghost use Rattle.link_tools_command.specs.Usage.{AreValidWords, IsFaultOf};
-ghost use Rattle.link_tools_command.specs.Reading.{IsUsageFaultOf, IsToolName, HasToolName, IsFaultForKind};
+ghost use Rattle.link_tools_command.specs.Invoked.{AreOptions, IsInvocationByWords, IsInvocationBy, IsInvocationOfTool, IsPackOptions, IsUnpackOptions, has_peer_limit, is_for_recordings, is_set, limits_bundles, mixes_inputs, number_in, number_of, text_of};
+ghost use Rattle.link_tools_command.specs.Usage.{AreValidWords, MayBeFaultOfWords};
+ghost use Rattle.link_tools_command.specs.Reading.{MayBeFaultOfMatches, IsToolName, HasToolName, MayBeFaultOfClapError};
 
 use crate::command::tcpclkit;
 use crate::invocation::Invocation;
@@ -22,15 +22,15 @@ use std::alloc::{AllocError, Global};
 /// # Errors
 ///
 /// - [`UsageFault::Help`]: `clap` finds a request for help or for the version in the words.
-/// - [`UsageFault::Words`]: `clap` refuses the words. Its own definition decides which it takes.
+/// - [`UsageFault::Words`]: `clap` refuses the words. `clap` itself defines which words it takes.
 /// - [`UsageFault::NodeTooLong`]: the node ID has more than 1,024 bytes.
 /// - [`UsageFault::MixedInputs`]: `--bundles` comes with an option for recordings.
 /// - [`UsageFault::LimitedBundles`]: `--bundles` comes with a limit of the peer.
 /// - [`UsageFault::Memory`]: a request for memory was refused.
 pub fn options(alloc: Global, words: &[String]) -> Result<Invocation, UsageFault>
-    ensures ok { IfOk result (IsInvoked (map string_bytes words.now)) }
+    ensures ok { IfOk result (IsInvocationByWords (map string_bytes words.now)) }
     ensures taken { IfOk result (λ _. AreValidWords (map string_bytes words.now)) }
-    ensures err { IfErr result (IsFaultOf (map string_bytes words.now)) }
+    ensures err { IfErr result (MayBeFaultOfWords (map string_bytes words.now)) }
     ensures passes { takes table (map string_bytes words.now) ≡ true
         → IfErr result (λ fault. (fault ≡ UsageFault.NodeTooLong)
         ⊎ ((fault ≡ UsageFault.MixedInputs)
@@ -49,8 +49,8 @@ pub fn options(alloc: Global, words: &[String]) -> Result<Invocation, UsageFault
 /// The invocation that the matches of the program ask for. They always have a tool.
 fn invocation(alloc: Global, matches: &ArgMatches<'_>) -> Result<Invocation, UsageFault>
     requires { HasToolName (subcommand_rows_of matches.now) }
-    ensures ok { IfOk result (IsInvokedByTool (subcommand_rows_of matches.now)) }
-    ensures err { IfErr result (IsUsageFaultOf (subcommand_rows_of matches.now)) }
+    ensures ok { IfOk result (IsInvocationOfTool (subcommand_rows_of matches.now)) }
+    ensures err { IfErr result (MayBeFaultOfMatches (subcommand_rows_of matches.now)) }
 {
     match matches.subcommand() {
         Some((name, tool)) => invocation_of(alloc, name, tool),
@@ -62,8 +62,9 @@ fn invocation(alloc: Global, matches: &ArgMatches<'_>) -> Result<Invocation, Usa
 /// The invocation that the matches of this tool ask for.
 fn invocation_of(alloc: Global, name: &str, tool: &ArgMatches<'_>) -> Result<Invocation, UsageFault>
     requires { IsToolName name.now }
-    ensures ok { IfOk result (IsInvokedBy name.now (rows_of (found_of tool.now))) }
-    ensures err { IfErr result (IsUsageFaultOf (Some (name.now, rows_of (found_of tool.now)))) }
+    ensures ok { IfOk result (IsInvocationBy name.now (rows_of (found_of tool.now))) }
+    ensures err { IfErr result
+        (MayBeFaultOfMatches (Some (name.now, rows_of (found_of tool.now)))) }
 {
     let options = options_of(name, tool)?;
     match file(alloc, tool) {
@@ -76,7 +77,8 @@ fn invocation_of(alloc: Global, name: &str, tool: &ArgMatches<'_>) -> Result<Inv
 fn options_of(name: &str, tool: &ArgMatches<'_>) -> Result<Options, UsageFault>
     requires { IsToolName name.now }
     ensures ok { IfOk result (AreOptions name.now (rows_of (found_of tool.now))) }
-    ensures err { IfErr result (IsUsageFaultOf (Some (name.now, rows_of (found_of tool.now)))) }
+    ensures err { IfErr result
+        (MayBeFaultOfMatches (Some (name.now, rows_of (found_of tool.now)))) }
 {
     match name {
         "unpack" => Ok(Options::Unpack(wanted(tool))),
@@ -113,7 +115,7 @@ fn wanted(tool: &ArgMatches<'_>) -> Wanted
     }
 }
 
-/// The options of `blocks`.
+/// The options of `blocks`. It is a fault if an option for recordings comes with `--bundles`.
 fn blocks(tool: &ArgMatches<'_>) -> Result<Options, UsageFault>
     ensures ok { IfOk result (AreOptions (codes "blocks") (rows_of (found_of tool.now))) }
     ensures err { IfErr result (λ fault. (fault ≡ UsageFault.MixedInputs)
@@ -138,7 +140,7 @@ fn is_for_recordings(tool: &ArgMatches<'_>) -> bool
     text(tool, "transfer").is_some() || is_set(tool, "keep-going")
 }
 
-/// The options of `check`.
+/// The options of `check`. It is a fault if a limit of the peer comes with `--bundles`.
 fn check(tool: &ArgMatches<'_>) -> Result<Options, UsageFault>
     ensures ok { IfOk result (AreOptions (codes "check") (rows_of (found_of tool.now))) }
     ensures err { IfErr result (λ fault. (fault ≡ UsageFault.LimitedBundles)
@@ -165,7 +167,9 @@ fn has_peer_limit(tool: &ArgMatches<'_>) -> bool
     text(tool, "peer-segment").is_some() || text(tool, "peer-transfer").is_some()
 }
 
-/// The options of `pack`. `None`: the node ID is too long.
+/// The options of `pack`, or `None` if the node ID is too long.
+///
+/// `max` and `min` change no number that `clap` takes, because the options have the same bounds.
 fn pack_options(tool: &ArgMatches<'_>) -> Option<PackOptions>
     ensures some { IfSome result (IsPackOptions (rows_of (found_of tool.now))) }
     ensures none { IfNone result (1024
@@ -215,7 +219,7 @@ fn number_in(tool: &ArgMatches<'_>, name: &str) -> Option<u64>
     tool.get_one::<u64>(name)
 }
 
-/// Whether this flag was given.
+/// Whether this flag was given. Its value is then `true`.
 #[tactic(auto, unfolding(crate::specs::Invoked::is_set))]
 fn is_set(tool: &ArgMatches<'_>, name: &str) -> bool
     ensures { result ≡ is_set name.now (rows_of (found_of tool.now)) }
@@ -235,9 +239,10 @@ fn text<'a>(tool: &ArgMatches<'a>, name: &str) -> Option<&'a str>
     tool.get_str(name)
 }
 
-/// The fault for an error of `clap`. It is also `Memory` if there is no memory for its text.
+/// The fault for an error of `clap`. If there is no memory for the text of the error, the fault is
+/// `Memory`.
 fn usage_fault(alloc: Global, error: &Error) -> UsageFault
-    ensures kind { IsFaultForKind (kind_of error.now) result }
+    ensures kind { MayBeFaultOfClapError (kind_of error.now) result }
     ensures memory { kind_of error.now ≡ ErrorKind.OutOfMemory → result ≡ UsageFault.Memory }
 {
     let Ok(text) = format!(in alloc; "{error}") else {

@@ -7,7 +7,7 @@ use Rattle.link_bundle_types.specs.declared.info.BundleInfo.{BundleInfo}
 use Rattle.link_bundle_blocks.specs.Bundle.{verdict, bundle_goes}
 use Rattle.link_run.specs.Made.{Made, tool_of}
 use Rattle.link_run.proofs.Ends.{take-append}
-use Rattle.link_run_over_bundle_files.specs.Bundles.{Packed, Refusal, Longer, Faulty, Rest, Divided, IsUnfinishedBundle, refused_by, divided_by, divided, with_bundles}
+use Rattle.link_run_over_bundle_files.specs.Bundles.{BundleWithInfo, Refusal, Longer, Faulty, TailAfterBundles, Divided, IsUnfinishedBundle, refused_by, divided_by, divided, with_bundles}
 use Rattle.link_run_over_bundle_files.specs.Telling.{SoFar, BundleTelling, between, come_in, stop_by, with_run, told_of}
 use Rattle.link_run_over_bundle_files.proofs.Dividing.{front_more, none_open, whole_stops, faulty_stops, within_limit, beyond_limit, refused_so, divided_none, divided_front}
 use Rattle.link_run_over_bundle_files.proofs.Divisions.{IsRefused, StaysDivided, stays_divided}
@@ -22,7 +22,7 @@ pub record Grows (telling : BundleTelling) : Type 0 where
       → AreFronts (telling.texts before) (telling.texts (with_run before run None))
   pub whole : (before : SoFar) (run : List ℕ) (info : BundleInfo) → 0 < length run
       → AreFronts (telling.texts before) (telling.texts (with_run before run (Some info)))
-  pub ended : (bundles : List Packed)
+  pub ended : (bundles : List BundleWithInfo)
       → AreFronts (telling.texts (between bundles)) (telling.ended bundles)
 
 -- if more bytes are needed before `run`, and none after it, then `run` is not empty
@@ -36,23 +36,24 @@ module _ (telling : BundleTelling) (grows : Grows telling) where
   abbrev limit : ℕ
   limit = telling.limit
 
-  abbrev now : List Packed → (begun : List ℕ) → SoFar
+  abbrev now : List BundleWithInfo → (begun : List ℕ) → SoFar
   now bundles begun = record { bundles = bundles; begun = begun }
 
   -- what is said of these bundles, and the bytes after them, begins what is said of this input too
-  abbrev BeginsSaying : List Packed → (begun : List ℕ) → Divided → Type 0
+  abbrev BeginsSaying : List BundleWithInfo → (begun : List ℕ) → Divided → Type 0
   BeginsSaying bundles begun input =
       AreFronts (telling.texts (now bundles begun))
       (telling.texts (come_in (with_bundles bundles input)))
 
   -- ---- a bundle that is refused, or goes on
 
-  refused_begins : (bundles : List Packed) (begun run accepted : List ℕ) (refusal : Refusal)
-      → accepted ≡ begun ++ run → BeginsSaying bundles begun (refused_so [] accepted refusal)
-  refused_begins bundles begun run accepted refusal is =
+  refused_begins : (bundles : List BundleWithInfo) (begun run before_fault : List ℕ)
+      (refusal : Refusal) → before_fault ≡ begun ++ run
+      → BeginsSaying bundles begun (refused_so [] before_fault refusal)
+  refused_begins bundles begun run before_fault refusal is =
       rw (append-nil bundles, is) (grows.part (now bundles begun) run)
 
-  faulty_begins : (bundles : List Packed) (begun run : List ℕ) (stays : Bool) (fault : BundleFault)
+  faulty_begins : (bundles : List BundleWithInfo) (begun run : List ℕ) (stays : Bool) (fault : BundleFault)
       (place : ℕ) → bundle_goes begun ≡ true → lasts fault ≡ stays
       → verdict (begun ++ run) ≡ Err (fault, place)
       → BeginsSaying bundles begun (refused_so []
@@ -72,10 +73,10 @@ module _ (telling : BundleTelling) (grows : Grows telling) where
   -- `more` comes after the bytes that have begun a bundle
   abbrev AllBegin : (count : ℕ) → Type 0
   AllBegin count =
-      (bundles : List Packed) (begun more : List ℕ) → IsUnfinishedBundle limit begun
+      (bundles : List BundleWithInfo) (begun more : List ℕ) → IsUnfinishedBundle limit begun
       → length (begun ++ more) ≤ count → BeginsSaying bundles begun (divided limit (begun ++ more))
 
-  module _ (count : ℕ) (fewer : AllBegin count) (bundles : List Packed) (begun more : List ℕ)
+  module _ (count : ℕ) (fewer : AllBegin count) (bundles : List BundleWithInfo) (begun more : List ℕ)
       (opened : IsUnfinishedBundle limit begun) (few : length (begun ++ more) ≤ suc count) where
     abbrev run : List ℕ
     run = taken bundle_goes begun more
@@ -86,7 +87,7 @@ module _ (telling : BundleTelling) (grows : Grows telling) where
 
     whole_begins : (info : BundleInfo) → 0 < length run → Judged (Ok info)
     whole_begins info some =
-        let bundle : Packed = record { bytes = begun ++ run; info = info } in
+        let bundle : BundleWithInfo = record { bytes = begun ++ run; info = info } in
         let rest = drop (length (begun ++ run)) (begun ++ more) in
         let later = divided limit rest in
         let size = length-append begun run in
@@ -125,7 +126,7 @@ module _ (telling : BundleTelling) (grows : Grows telling) where
 
   -- ---- what is made of an input
 
-  ended_begins : (bundles : List Packed) (rest : Option Rest) → stop_by (length bundles) rest ≡ None
+  ended_begins : (bundles : List BundleWithInfo) (rest : Option TailAfterBundles) → stop_by (length bundles) rest ≡ None
       → AreFronts (telling.texts (come_in (record { bundles = bundles; rest = rest })))
       (telling.ended bundles)
   ended_begins bundles None none = grows.ended bundles

@@ -10,14 +10,14 @@ use Rattle.link_transfer.specs.{Chunks.chunk_count, Cutting.{due, due_of}, Event
 use Rattle.link_transfer.specs.{Joiner.IsJoinerAt, Order.refusal}
 use Rattle.link_transfer.proofs.Due.{chunk_left, byte_left, given_within, fits_back}
 use Rattle.link_transfer.proofs.Joining.{IsJoinerAt-none}
-use Rattle.link_session_rules.specs.Heads.{HeadWithJudgement}
+use Rattle.link_session_rules.specs.Heads.{HeadWithOrder}
 use Rattle.link_run.proofs.Continued.{entry}
 use Rattle.link_run_over_transfers.specs.Walk.{head_at}
 use Rattle.link_run_judge.specs.Transfers.{Transfer, after_message}
-use Rattle.link_run_over_bundle_files.specs.Bundles.{Packed, Rest, Divided}
+use Rattle.link_run_over_bundle_files.specs.Bundles.{BundleWithInfo, TailAfterBundles, Divided}
 use Rattle.link_tool_check.specs.Checking.{judged}
 use Rattle.link_tool_pack.specs.Packing.{segment_size, sending}
-use Rattle.link_tool_pack.specs.Segments.{Sending, cutting_of, cut_at, segment_bytes, segments_of}
+use Rattle.link_tool_pack.specs.Segments.{BundleToCut, cutting_of, cut_at, segment_bytes, segments_of}
 use Rattle.link_tools_laws.specs.PackedStream.{SegmentFits}
 use Rattle.link_tools_laws.specs.Transfers.{ordered, ordered_by, ordered_after, transfers_of}
 use Rattle.link_tools_laws.proofs.Same.{AreInOrder, all, after_all}
@@ -39,7 +39,7 @@ due_within segment hold count size some few = grind (arith, fits_back, given_wit
 -- ---- the transfers
 
 module _ (options : PackOptions) where
-  abbrev pub transfer_of : (number : ℕ) → Packed → Transfer
+  abbrev pub transfer_of : (number : ℕ) → BundleWithInfo → Transfer
   transfer_of number bundle = record {
     first = head_of number (sending options true bundle.bytes) 0;
     content = bundle.bytes;
@@ -47,14 +47,14 @@ module _ (options : PackOptions) where
   }
 
   -- the transfers of these bundles and the earlier ones, the latest first
-  unfoldable pub onto : (number : ℕ) → List Packed → List Transfer → List Transfer
+  unfoldable pub onto : (number : ℕ) → List BundleWithInfo → List Transfer → List Transfer
   onto number [] earlier = earlier
   onto number (bundle ∷ more) earlier = onto (suc number) more (transfer_of number bundle ∷ earlier)
 
   pub onto_all : (P : Transfer → Type 0)
-      → ((number : ℕ) (bundle : Packed) → IsBundle options.peer_transfer bundle
+      → ((number : ℕ) (bundle : BundleWithInfo) → IsBundle options.peer_transfer bundle
       → P (transfer_of number bundle))
-      → (number : ℕ) (bundles : List Packed) (earlier : List Transfer)
+      → (number : ℕ) (bundles : List BundleWithInfo) (earlier : List Transfer)
       → AreBundles options.peer_transfer bundles → All P earlier
       → All P (onto number bundles earlier)
   unfolding onto
@@ -64,10 +64,10 @@ module _ (options : PackOptions) where
       onto_all P each (suc number) more (latest ∷ earlier) are.1
       (All-cons P latest earlier (each number bundle are.0) so)
 
-  abbrev pub rest_onto : (number : ℕ) → Option Rest → List Transfer → List Transfer
+  abbrev pub rest_onto : (number : ℕ) → Option TailAfterBundles → List Transfer → List Transfer
   rest_onto number None earlier = earlier
   rest_onto number (Some rest) earlier =
-      let part = sending options false rest.accepted in
+      let part = sending options false rest.before_fault in
       so_far number part (due (cutting_of part)) earlier
 
   abbrev pub packed_transfers : Divided → List Transfer
@@ -77,12 +77,12 @@ module _ (options : PackOptions) where
 
 -- what a head has to keep that comes after these messages and heads
 abbrev pub ToKeep : Type 1
-ToKeep = List Message → List HeadWithJudgement → Entry → Type 0
+ToKeep = List Message → List HeadWithOrder → Entry → Type 0
 
 module _ (Keeps : ToKeep) (End : List Message → List Transfer → Type 0) where
   -- Each of these heads is in order, and keeps what it has to. They come after these messages,
   -- heads and transfers, and `End` holds after them.
-  abbrev pub Come : List Message → (before : List HeadWithJudgement) → List Transfer → List Entry
+  abbrev pub Come : List Message → (before : List HeadWithOrder) → List Transfer → List Entry
       → Type 0
   Come taken before transfers [] = End taken transfers
   Come taken before transfers (head ∷ more) =
@@ -94,22 +94,22 @@ module _ (Keeps : ToKeep) (End : List Message → List Transfer → Type 0) wher
   -- these heads come after any others with which the next transfer has this ID
   abbrev pub ComeAfter : (next : ℕ) → List Transfer → List Entry → Type 0
   ComeAfter next transfers heads =
-      (taken : List Message) (before : List HeadWithJudgement) → Between next taken before
+      (taken : List Message) (before : List HeadWithOrder) → Between next taken before
       → Come taken before transfers heads
 
   -- ---- the segments of a bundle
 
-  module _ (id : ℕ) (sending : Sending) (earlier : List Transfer) (more : List Entry) (last : ℕ)
-      (keeps : (k offset : ℕ) → k ≤ last → (taken : List Message) (before : List HeadWithJudgement)
+  module _ (id : ℕ) (sending : BundleToCut) (earlier : List Transfer) (more : List Entry) (last : ℕ)
+      (keeps : (k offset : ℕ) → k ≤ last → (taken : List Message) (before : List HeadWithOrder)
       → At id sending k taken before → Keeps taken before (segment_at id sending k offset))
       (goes_on : (k : ℕ) → k < last → last_at id sending k ≡ false)
-      (then_come : (taken : List Message) (before : List HeadWithJudgement)
+      (then_come : (taken : List Message) (before : List HeadWithOrder)
       → (last_at id sending last ≡ true → Between (suc id) taken before)
       → Come taken before (sent id sending (suc last) (last_at id sending last) ∷ earlier) more)
     where
       -- those from number `k` on
       chunks_come : (count k offset : ℕ) → k + count ≡ last
-          → (taken : List Message) (before : List HeadWithJudgement) → At id sending k taken before
+          → (taken : List Message) (before : List HeadWithOrder) → At id sending k taken before
           → Come taken before (so_far id sending k earlier)
           (segment_entries id sending k (suc count) offset ++ more)
       unfolding segment_entries
@@ -145,10 +145,10 @@ module _ (Keeps : ToKeep) (End : List Message → List Transfer → Type 0) wher
       (keeps : (id k offset : ℕ) (whole : Bool) (bytes : List ℕ)
       → length bytes ≤ options.peer_transfer
       → k < chunk_count (segment_size options) (length bytes)
-      → (taken : List Message) (before : List HeadWithJudgement)
+      → (taken : List Message) (before : List HeadWithOrder)
       → At id (sending options whole bytes) k taken before
       → Keeps taken before (segment_at id (sending options whole bytes) k offset)) where
-    whole_come : (id count : ℕ) (bundle : Packed) (earlier : List Transfer) (more : List Entry)
+    whole_come : (id count : ℕ) (bundle : BundleWithInfo) (earlier : List Transfer) (more : List Entry)
         (offset : ℕ) → IsBundle options.peer_transfer bundle
         → count ≡ chunk_count (segment_size options) (length bundle.bytes)
         → ComeAfter (suc id) (transfer_of options id bundle ∷ earlier) more
@@ -175,7 +175,7 @@ module _ (Keeps : ToKeep) (End : List Message → List Transfer → Type 0) wher
         (then_come taken before (closed ends)))
         last 0 offset (omega arith) taken before (begins id whole at)
 
-    bundles_come : (number next : ℕ) (bundles : List Packed) (earlier : List Transfer)
+    bundles_come : (number next : ℕ) (bundles : List BundleWithInfo) (earlier : List Transfer)
         (more : List Entry) (offset : ℕ) → AreBundles options.peer_transfer bundles
         → next ≡ number + length bundles
         → ComeAfter next (onto options number bundles earlier) more
@@ -211,7 +211,7 @@ module _ (Keeps : ToKeep) (End : List Message → List Transfer → Type 0) wher
 
     -- what comes at the end of a stream
     pub term_come : (asked : Bool) (offset next : ℕ) (made : List Transfer)
-        → ((taken : List Message) (before : List HeadWithJudgement) → Between next taken before
+        → ((taken : List Message) (before : List HeadWithOrder) → Between next taken before
         → Keeps taken before (entry offset (message.SessTerm 0 0) []))
         → ((terminated : Bool) (taken : List Message)
         → IsJoinerAt (record (carrying None) { terminated = terminated }) taken → End taken made)
@@ -224,7 +224,7 @@ module _ (Keeps : ToKeep) (End : List Message → List Transfer → Type 0) wher
     term_come false offset next made keeps ends taken before at = ends false taken at.joins
 
     -- the whole stream, up to the end of its bundles
-    pub packed_come : (bundles : List Packed) (more : List Entry)
+    pub packed_come : (bundles : List BundleWithInfo) (more : List Entry)
         → AreBundles options.peer_transfer bundles → Keeps [] [] (init_entry options)
         → ComeAfter (length bundles) (onto options 0 bundles []) more → (offset : ℕ)
         → Come [] [] [] ((init_entry options ∷ bundle_entries options 0 bundles offset) ++ more)
@@ -265,7 +265,7 @@ module _ (options : PackOptions) where
     fits : (id k offset : ℕ) (whole : Bool) (bytes : List ℕ)
         → length bytes ≤ options.peer_transfer
         → k < chunk_count (segment_size options) (length bytes)
-        → (taken : List Message) (before : List HeadWithJudgement)
+        → (taken : List Message) (before : List HeadWithOrder)
         → At id (sending options whole bytes) k taken before
         → Fits (segment_at id (sending options whole bytes) k offset)
     fits id k offset whole bytes within few taken before at =
@@ -275,7 +275,7 @@ module _ (options : PackOptions) where
         let rest = length-drop (k * size) bytes in
         (omega arith, omega arith, omega arith)
 
-    rest_come : (rest : Option Rest) → input.rest ≡ rest
+    rest_come : (rest : Option TailAfterBundles) → input.rest ≡ rest
         → IfSome rest (IsRest options.peer_transfer) → (offset : ℕ)
         → ComeAfter Keep End number (onto options 0 input.bundles [])
         (end_entries options number rest offset)
@@ -284,12 +284,12 @@ module _ (options : PackOptions) where
         term_come Keep End options fits options.send_term offset number _
         (λ taken before at. tt) (λ terminated taken joins. rw is refl)
     rest_come (Some rest) is is_rest offset =
-        part_come Keep End options fits number _ rest.accepted _ offset is_rest.within
-        (due_within (segment_size options) options.announce _ (length rest.accepted)
+        part_come Keep End options fits number _ rest.before_fault _ offset is_rest.within
+        (due_within (segment_size options) options.announce _ (length rest.before_fault)
         (some_size options) (omega arith)) (λ taken. rw is refl)
 
     -- what holds of heads that come one by one
-    come_so : (heads : List Entry) (taken : List Message) (before : List HeadWithJudgement)
+    come_so : (heads : List Entry) (taken : List Message) (before : List HeadWithOrder)
         (transfers : List Transfer) → Come Keep End taken before transfers heads
         → (ordered_after taken heads ≡ all heads)
         × (after_all transfers heads ≡ packed_transfers options input) × All Fits heads

@@ -15,7 +15,7 @@ use Rattle.link_transfer.specs.declared.fault.OrderFault.{OrderFault}
 use Rattle.link_session_rules.specs.{TransferData.data_rule, Flags.item_flags, NodeIds.node_id}
 use Rattle.link_session_rules.specs.TransferRules.{broken_transfer_rules, if_malformed, if_different, length_item, length_differs, length_of_one_segment, transfer_level_of}
 use Rattle.link_session_rules.specs.declared.rule.TransferRule.{TransferRule}
-use Rattle.link_session_rules.specs.{Heads.{HeadWithJudgement, messages_of}, Session.{order, order_level}}
+use Rattle.link_session_rules.specs.{Heads.{HeadWithOrder, messages_of}, Session.{order, order_level}}
 use Rattle.link_session_rules.specs.MessageRules.{broken_rules, judged_rules, level_of}
 use Rattle.link_session_rules.specs.declared.rule.MessageRule.{MessageRule}
 use Rattle.link_report.specs.Judgement.{judged_length, judged_data}
@@ -24,9 +24,9 @@ use Rattle.link_report_broken_rules.specs.{Names.rule_level, declared.line.RuleT
 use Rattle.link_run.specs.Made.{StreamStop, stop_of}
 use Rattle.link_run_over_transfers.specs.Walk.{head_at, WalkEvent, MessageHead, content_events, Walked, none_walked, with_next, walked_of, end_events, stop_by, told_of}
 use Rattle.link_run_judge.specs.{Transfers.Transfer, Unpacking.Told}
-use Rattle.link_tool_check.specs.Checking.{closed_rules, data_rules, Begun, heads_with, judged, latest_with, check_tool}
+use Rattle.link_tool_check.specs.Checking.{closed_rules, data_rules, BegunTransfer, heads_with, judged, latest_with, check_tool}
 use Rattle.link_tool_check.specs.Lines.{none_counts, at_offset}
-use Rattle.link_tools_laws.specs.Checked.{IsGoodOrUnsupported, HasGoodOrUnsupportedBundle, IsSecondInit, IsAllowedStop, HasOnlyAllowed}
+use Rattle.link_tools_laws.specs.Checked.{IsGoodOrUnsupported, HasGoodOrUnsupportedBundle, IsSecondInitFault, IsSecondInitOrNoStop, HasOnlyAllowedFaults}
 use Rattle.link_tools_laws.specs.{Cuts.{fault_at, faults_after, lined}, RoundTrip.all}
 use Rattle.link_tools_laws.specs.Transfers.{ordered_by, ordered_after, ordered, transfers_of, unpacked_of}
 use Rattle.link_tools_laws.proofs.Placed.{counts_append, options, broken_with, broken_from, good_kept, none_before, Placed, is_closed, passing, transfers_in, begun_of, due_of, rules_of, told_transfers, AfterAll, from_start}
@@ -173,14 +173,14 @@ module _ (offset : ℕ) where
       → none_counts true (lines_for (filter_map (λ judged. judged)
       (option_map (λ fault. message_rule.Order fault (order_level earlier message fault)) fault
       ∷ others))) ≡ true
-      → All IsSecondInit (fault_at offset fault)
+      → All IsSecondInitFault (fault_at offset fault)
   unfolding none_counts rule_level level_of
   order_rule earlier message fault others none = grind arith
 
 module _ (peer : PeerLimits) where
-  head_allowed : (heads : List HeadWithJudgement) (offset : ℕ) (head : HeadWithJudgement)
+  head_allowed : (heads : List HeadWithOrder) (offset : ℕ) (head : HeadWithOrder)
       → none_counts true (lines_for offset (broken_rules peer heads head)) ≡ true
-      → All IsSecondInit (fault_at offset head.fault)
+      → All IsSecondInitFault (fault_at offset head.fault)
   unfolding broken_rules order
   head_allowed heads offset head none =
       let judged = judged_rules peer heads head in
@@ -188,19 +188,19 @@ module _ (peer : PeerLimits) where
       (later_rules offset (item_flags head.message) (drop 2 judged)
       (later_rules offset (node_id head.message) (drop 1 judged) none))
 
-  event_allowed : (heads : List HeadWithJudgement) (latest : Option Begun) (event : WalkEvent)
+  event_allowed : (heads : List HeadWithOrder) (latest : Option BegunTransfer) (event : WalkEvent)
       → none_counts true (broken_with peer heads latest event) ≡ true
-      → All IsSecondInit (faults_of event)
+      → All IsSecondInitFault (faults_of event)
   event_allowed heads latest (MessageHead head) none =
       head_allowed heads head.offset (judged head) (grind (arith, counts_append))
-  event_allowed heads latest event none = All-nil IsSecondInit
+  event_allowed heads latest event none = All-nil IsSecondInitFault
 
-  events_allowed : (events : List WalkEvent) (heads : List HeadWithJudgement) (latest : Option Begun)
+  events_allowed : (events : List WalkEvent) (heads : List HeadWithOrder) (latest : Option BegunTransfer)
       → none_counts true (broken_from peer heads latest events) ≡ true
-      → All IsSecondInit (all_faults events)
-  events_allowed [] heads latest none = All-nil IsSecondInit
+      → All IsSecondInitFault (all_faults events)
+  events_allowed [] heads latest none = All-nil IsSecondInitFault
   events_allowed (event ∷ more) heads latest none =
-      All-append IsSecondInit (faults_of event) (all_faults more)
+      All-append IsSecondInitFault (faults_of event) (all_faults more)
       (event_allowed heads latest event (grind (arith, counts_append)))
       (events_allowed more (heads_with heads event) (latest_with latest event)
       (grind (arith, counts_append)))
@@ -210,10 +210,10 @@ module _ (peer : PeerLimits) where
 -- the fault at which the walk ends, if there is one
 abbrev MayRefuse : Option (ℕ × OrderFault) → Type 0
 MayRefuse None = Unit {0}
-MayRefuse (Some fault) = IsSecondInit fault
+MayRefuse (Some fault) = IsSecondInitFault fault
 
 may_refuse : (heads : List Entry) (before : List Message)
-    → All IsSecondInit (faults_after before heads) → MayRefuse (ordered_after before heads).refused
+    → All IsSecondInitFault (faults_after before heads) → MayRefuse (ordered_after before heads).refused
 unfolding ordered_after faults_after
 may_refuse [] before faults = tt
 may_refuse (head ∷ more) before faults =
@@ -221,16 +221,16 @@ may_refuse (head ∷ more) before faults =
     let later = faults_after (with_taken before head.message) more in
     (elim (refusal before (event_of head.message)) as (λ refused.
     refusal before (event_of head.message) ≡ refused
-    → All IsSecondInit (fault_at head.offset refused ++ later)
+    → All IsSecondInitFault (fault_at head.offset refused ++ later)
     → MayRefuse (ordered_by refused head (ordered_after seen more)).refused) [
       | None ↦ λ is all.
           let belongs = not_stray before (event_of head.message) is in
           may_refuse more seen (rw (taken_more before head.message belongs) at all)
-      | Some fault ↦ λ is all. All-head IsSecondInit (head.offset, fault) later all
+      | Some fault ↦ λ is all. All-head IsSecondInitFault (head.offset, fault) later all
     ]) refl faults
 
 may_stop : (refused : Option (ℕ × OrderFault)) (end : End) → stop_of end ≡ None
-    → MayRefuse refused → IsAllowedStop (stop_by refused end)
+    → MayRefuse refused → IsSecondInitOrNoStop (stop_by refused end)
 may_stop None end none may = rw none tt
 may_stop (Some (offset, fault)) end none may = (offset, ap (λ f. Order offset f) may)
 
@@ -270,7 +270,7 @@ module _ (peer : PeerLimits) (bytes : List ℕ)
   keeps : KeepsMusts peer reading.contact heads
   keeps = grind (arith, front_first, kept, none_before)
 
-  faults : All IsSecondInit (faults_after [] heads)
+  faults : All IsSecondInitFault (faults_after [] heads)
   faults =
       let same : all_faults walk.events ≡ faults_after [] heads =
       grind (arith, walk_faults, walk_is) in
@@ -290,7 +290,7 @@ module _ (peer : PeerLimits) (bytes : List ℕ)
       (subst (KeepsMusts peer reading.contact) first.parts keeps)) all
       )
 
-  pub only_allowed : HasOnlyAllowed bytes
+  pub only_allowed : HasOnlyAllowedFaults bytes
   unfolding ordered
   only_allowed = record {
     stop = may_stop (ordered heads).refused reading.end kept.unstopped (may_refuse heads [] faults);

@@ -22,7 +22,7 @@ use Rattle.link_session_rules.specs.{Answers.{ack_length, answer_order}, Message
 use Rattle.link_session_rules.specs.Endings.{rejects_type, after_reject, term_order}
 use Rattle.link_session_rules.specs.Assigned.{item_type, reject_known, reason}
 use Rattle.link_session_rules.specs.Flags.{item_flags, segment_flags, term_flags}
-use Rattle.link_session_rules.specs.Heads.{HeadWithJudgement, newest, is_sess_term, start_id}
+use Rattle.link_session_rules.specs.Heads.{HeadWithOrder, newest, is_sess_term, start_id}
 use Rattle.link_session_rules.specs.Lengths.{peer_segment, size_of, if_exceeded, peer_transfer, earlier_of, segments_of, first_segment}
 use Rattle.link_session_rules.specs.NodeIds.{node_id, node_name}
 use Rattle.link_session_rules.specs.Session.{order, before_session, keepalive, keepalive_interval}
@@ -33,7 +33,7 @@ use Rattle.link_run_over_transfers.specs.Walk.{head_at}
 use Rattle.link_run_judge.specs.Transfers.{Transfer, after_message}
 use Rattle.link_run_judge.proofs.Heads.{transfer_begins, transfer_continues}
 use Rattle.link_tool_check.specs.Checking.{judged}
-use Rattle.link_tool_pack.specs.Segments.{flags_of, Sending, cut_at}
+use Rattle.link_tool_pack.specs.Segments.{flags_of, BundleToCut, cut_at}
 use Rattle.link_tools_laws.specs.PackedRules.{AreInitRulesKept}
 use Rattle.link_tools_laws.proofs.Entries.{chunk_of, message_of}
 use Rattle.link_wire.specs.declared.message.Message.TheVariants as message
@@ -44,11 +44,11 @@ starts_as first last = grind arith
 
 -- ---- no end of the session so far
 
-pub record HasOpenTransfer (before : List HeadWithJudgement) : Type 0 where
+pub record HasOpenTransfer (before : List HeadWithOrder) : Type 0 where
   pub unrejected : list_any rejects_type (newest before) ≡ false
   pub unended : list_any is_sess_term (newest before) ≡ false
 
-pub open_then : (before : List HeadWithJudgement) (head : HeadWithJudgement) → HasOpenTransfer before
+pub open_then : (before : List HeadWithOrder) (head : HeadWithOrder) → HasOpenTransfer before
     → rejects_type head.message ≡ false → is_sess_term head.message ≡ false
     → HasOpenTransfer (before ++ head ∷ [])
 open_then before head is_open rejects ends = record {
@@ -56,24 +56,24 @@ open_then before head is_open rejects ends = record {
   unended = rw (newest_then before head, ends) is_open.unended;
 }
 
-not_after : (before : List HeadWithJudgement) (message : Message) → HasOpenTransfer before
+not_after : (before : List HeadWithOrder) (message : Message) → HasOpenTransfer before
     → after_reject before message ≡ None
 unfolding after_reject
 not_after before message is_open = rw is_open.unrejected refl
 
-not_late : (before : List HeadWithJudgement) (message : Message) → HasOpenTransfer before
+not_late : (before : List HeadWithOrder) (message : Message) → HasOpenTransfer before
     → term_order before message ≡ None
 unfolding term_order
 not_late before message is_open = rw (is_open.unended, and-false) refl
 
 -- ---- rules, one by one
 
-module _ (peer : PeerLimits) (before : List HeadWithJudgement) where
+module _ (peer : PeerLimits) (before : List HeadWithOrder) where
   module _ (first last : Bool) (id size : ℕ) (announce : Option ℕ) (turn : Turn) where
     abbrev segment : Message
     segment = segment_with (flags_of first last) id size announce
 
-    abbrev segment_head : HeadWithJudgement
+    abbrev segment_head : HeadWithOrder
     segment_head = record { message = segment; fault = None; turn = Some turn }
 
     -- in order, and it abandons no transfer
@@ -88,7 +88,7 @@ module _ (peer : PeerLimits) (before : List HeadWithJudgement) where
 
   -- ---- messages that are no segments
 
-  abbrev plain : Message → HeadWithJudgement
+  abbrev plain : Message → HeadWithOrder
   plain sent = record { message = sent; fault = None; turn = Some turn.Other }
 
   module _ (interval segment_mru transfer_mru : ℕ) (node : List ℕ) where
@@ -113,7 +113,7 @@ module _ (peer : PeerLimits) (before : List HeadWithJudgement) where
 -- ---- transfer IDs
 
 -- the IDs of the transfers that began, the newest first
-abbrev pub ids_of : List HeadWithJudgement → List ℕ
+abbrev pub ids_of : List HeadWithOrder → List ℕ
 ids_of before = filter_map start_id (newest before)
 
 -- the IDs from this one down to 0
@@ -144,7 +144,7 @@ is_next (suc next) = rw (eq-eqb (suc next) (next + 1) (omega arith)) refl
 abbrev pub next_by : (id : ℕ) (first : Bool) → ℕ
 next_by id first = if first then id else suc id
 
-module _ (before : List HeadWithJudgement) (last : Bool) (id size : ℕ) (announce : Option ℕ) where
+module _ (before : List HeadWithOrder) (last : Bool) (id size : ℕ) (announce : Option ℕ) where
   -- the IDs with the segment
   pub ids_more : (first : Bool) (fault : Option OrderFault) (does : Option Turn)
       → ids_of before ≡ counts (next_by id first)
@@ -258,7 +258,7 @@ taken_first segment bundle =
     ap (λ n. take n bundle ++ chunk_at segment 0 bundle) {x = 0} {y = 0 * segment} (omega arith)
     ∙ taken_more segment 0 bundle
 
-abbrev pub head_of : (id : ℕ) → Sending → (k : ℕ) → SegmentHead
+abbrev pub head_of : (id : ℕ) → BundleToCut → (k : ℕ) → SegmentHead
 head_of id sending k = record {
   flags = flags_of (cut_at sending k).first (cut_at sending k).last;
   id = id;
@@ -267,7 +267,7 @@ head_of id sending k = record {
 }
 
 -- a transfer after `count` of its chunks were sent
-abbrev pub sent : (id : ℕ) → Sending → (count : ℕ) → (closed : Bool) → Transfer
+abbrev pub sent : (id : ℕ) → BundleToCut → (count : ℕ) → (closed : Bool) → Transfer
 sent id sending count closed = record {
   first = head_of id sending 0;
   content = take (count * sending.segment) sending.bundle;
@@ -280,12 +280,12 @@ later k = ne_eqb (suc k) 0 (λ same. absurd (omega arith))
 -- ---- a segment
 
 -- no transfer is open, and their IDs are those below this one
-pub record Between (next : ℕ) (taken : List Message) (before : List HeadWithJudgement) : Type 0 where
+pub record Between (next : ℕ) (taken : List Message) (before : List HeadWithOrder) : Type 0 where
   pub joins : IsJoinerAt (carrying None) taken
   pub is_open : HasOpenTransfer before
   pub ids : ids_of before ≡ counts next
 
-module _ (id : ℕ) (sending : Sending) where
+module _ (id : ℕ) (sending : BundleToCut) where
   abbrev pub last_at : (k : ℕ) → Bool
   last_at k = (cut_at sending k).last
 
@@ -330,13 +330,13 @@ module _ (id : ℕ) (sending : Sending) where
       grind (arith, and-true, ends_as, eq-eqb, starts_as, taken_more, transfer_continues)
 
   -- before chunk number `k`
-  pub record At (k : ℕ) (taken : List Message) (before : List HeadWithJudgement) : Type 0 where
+  pub record At (k : ℕ) (taken : List Message) (before : List HeadWithOrder) : Type 0 where
     pub joins : IsJoinerAt (carrying (open_unless id (k == 0))) taken
     pub is_open : HasOpenTransfer before
     pub ids : ids_of before ≡ counts (next_by id (k == 0))
     pub segments : back (k == 0) (segments_of before) ≡ heads_back k
 
-  pub begins : {taken : List Message} {before : List HeadWithJudgement}
+  pub begins : {taken : List Message} {before : List HeadWithOrder}
       → Between id taken before → At 0 taken before
   begins at = record {
     joins = at.joins;
@@ -345,7 +345,7 @@ module _ (id : ℕ) (sending : Sending) where
     segments = refl;
   }
 
-  module _ (k offset : ℕ) (taken : List Message) (before : List HeadWithJudgement)
+  module _ (k offset : ℕ) (taken : List Message) (before : List HeadWithOrder)
       (at : At k taken before) where
     abbrev is_first : Bool
     is_first = k == 0
@@ -353,7 +353,7 @@ module _ (id : ℕ) (sending : Sending) where
     abbrev its_message : Message
     its_message = message_of id sending k
 
-    abbrev pub now : HeadWithJudgement
+    abbrev pub now : HeadWithOrder
     now = judged (head_at taken offset its_message)
 
     may : refusal_by true false (open_unless id is_first) (event_of its_message) ≡ None

@@ -5,7 +5,7 @@ use Rattle.std.proofs.Common.{◌≡◌, ℕ, Bool, false, not, is_some, List, [
 use Rattle.std.proofs.lemmas.List.Concat.{flat_map-append}
 use Rattle.link_tool_option_types.specs.declared.wanted.Wanted.{Wanted}
 use Rattle.link_wire.specs.{Stream.{Entry, reading_of, heads_of, End, Reading}, Spelled.Spelled}
-use Rattle.link_wire.specs.{declared.message.Message.Message, SpelledStream.{IsStream, IsReading}}
+use Rattle.link_wire.specs.{declared.message.Message.Message, SpelledStream.{IsStream, IsReadingOf}}
 use Rattle.link_transfer.specs.{Event.event_of, Order.{is_stray, effect_of, with_taken, refusal}}
 use Rattle.link_transfer.specs.{declared.joiner.Turn.Turn, declared.fault.OrderFault.OrderFault}
 use Rattle.link_report.specs.{declared.transfer.TransferEntry.TransferEntry, Transfer.transfer_text}
@@ -14,7 +14,7 @@ use Rattle.link_run_over_transfers.proofs.Heads.{other_has_none}
 use Rattle.link_run_judge.specs.{Transfers.Transfer, Unpacking.{parts_of, part_of, entry_of}}
 use Rattle.link_run_judge.proofs.{Effects.Does, Texts.parts_more}
 use Rattle.link_run_judge.proofs.Heads.{transfers_same, transfer_begins, transfer_continues}
-use Rattle.link_tools_laws.specs.Cuts.{data_of, prepended_unless, taken_after, HasEveryByte, HasEveryTakenByte, order_of, entries_of, AreConsecutive, total_written, stream_stop, lined, reported, Divides, DividesOutput, stopping, going_on, ReportLine, OfHead, OfTransfer, line_text, entry_in, fault_in, faults_after, DividesOutputGoingOn}
+use Rattle.link_tools_laws.specs.Cuts.{data_of, prepended_unless, taken_after, UnpacksToAllData, UnpacksToNonStrayData, order_of, entries_of, AreOutputPartsEndToEnd, total_written, stream_stop, lined, reported, LinesDivideOutput, ReportDividesOutput, stopping, going_on, ReportLine, OfHead, OfTransfer, line_text, entry_in, fault_in, faults_after, ReportDividesOutputKeepGoing}
 use Rattle.link_tools_laws.specs.RoundTrip.{all}
 use Rattle.link_tools_laws.specs.Transfers.{ordered_after, ordered, transfers_of, UnpackedSoFar, transfers_with, with_head, unpacked_of, by_transfers, settled}
 use Rattle.link_tools_laws.proofs.Same.{accepted_in_order, all_kept, AreInOrder, all as in_order, first_may, not_stray, taken_more, unpacked_in_order, whole_is}
@@ -94,7 +94,7 @@ accepted_bytes heads read are =
 
 -- ---- the output for any stream
 
-pub every_byte : (bytes : List ℕ) → HasEveryByte bytes
+pub every_byte : (bytes : List ℕ) → UnpacksToAllData bytes
 unfolding by_transfers
 every_byte bytes =
     let made = by_transfers all bytes in
@@ -104,7 +104,7 @@ every_byte bytes =
     ∙ accepted_bytes (ordered heads).heads ((all_kept heads).read (reading_read bytes).heads)
     (accepted_in_order heads)
 
-pub every_taken_byte : (bytes : List ℕ) → HasEveryTakenByte bytes
+pub every_taken_byte : (bytes : List ℕ) → UnpacksToNonStrayData bytes
 unfolding by_transfers
 every_taken_byte bytes = grind (arith, reading_read, unpacked_bytes, whole_is, whole_output)
 
@@ -127,7 +127,7 @@ stream_size (entry ∷ entries) end offset bytes stream =
       length-append entry.content (flat_map data_of entries),
     )
 
-pub reading_size : (bytes : List ℕ) (reading : Reading) → IsReading bytes reading
+pub reading_size : (bytes : List ℕ) (reading : Reading) → IsReadingOf bytes reading
     → length (flat_map data_of reading.entries) ≤ length bytes
 reading_size bytes reading is = grind (arith, length-append, stream_size)
 
@@ -157,9 +157,9 @@ written_push [] last = omega arith
 written_push (entry ∷ more) last = let later = written_push more last in omega arith
 
 follow_push : (start : ℕ) (entries : List TransferEntry) (last : TransferEntry)
-    → AreConsecutive start entries → last.start ≡ start + total_written entries
-    → AreConsecutive start (entries ++ last ∷ [])
-unfolding AreConsecutive total_written
+    → AreOutputPartsEndToEnd start entries → last.start ≡ start + total_written entries
+    → AreOutputPartsEndToEnd start (entries ++ last ∷ [])
+unfolding AreOutputPartsEndToEnd total_written
 follow_push start [] last follow is = (omega arith, tt)
 follow_push start (entry ∷ more) last follow is = (follow.0, follow_push (start + entry.written) more last follow.1 (omega arith))
 
@@ -173,8 +173,8 @@ module _ (wanted : Wanted) where
       let pushed = written_push (entries_of wanted earlier) (entry_of wanted latest (length (parts_of wanted earlier))) in
       omega (arith, length-append (parts_of wanted earlier) (part_of wanted latest))
 
-  follows : (transfers : List Transfer) → AreConsecutive 0 (entries_of wanted transfers)
-  unfolding entries_of AreConsecutive
+  follows : (transfers : List Transfer) → AreOutputPartsEndToEnd 0 (entries_of wanted transfers)
+  unfolding entries_of AreOutputPartsEndToEnd
   follows [] = tt
   follows (latest ∷ earlier) =
       let before = all_written earlier in
@@ -198,7 +198,7 @@ unlined_first stop transfers = grind arith
 pub cut_by_lines : (wanted : Wanted) (stop : Option StreamStop) (made : Made)
     (transfers : List Transfer) → made.ended.output ≡ made.texts.output
     → made.texts.output ≡ parts_of wanted transfers
-    → Divides wanted (whole_by stop made).texts.output (lined stop transfers)
+    → LinesDivideOutput wanted (whole_by stop made).texts.output (lined stop transfers)
 cut_by_lines wanted stop made transfers same is =
     let first = unlined_first stop transfers in
     record {
@@ -210,7 +210,7 @@ cut_by_lines wanted stop made transfers same is =
     }
 
 -- the report cuts the output, for any stream
-pub cuts : (wanted : Wanted) (bytes : List ℕ) → DividesOutput (stopping wanted) bytes
+pub cuts : (wanted : Wanted) (bytes : List ℕ) → ReportDividesOutput (stopping wanted) bytes
 unfolding by_transfers
 cuts wanted bytes =
     let now = stopping wanted in
@@ -280,7 +280,7 @@ module _ (wanted : Wanted) where
       read
       (record { lines = []; report = refl; entries = refl; faults = refl })
 
-pub cuts_on : (wanted : Wanted) (bytes : List ℕ) → DividesOutputGoingOn (going_on wanted) bytes
+pub cuts_on : (wanted : Wanted) (bytes : List ℕ) → ReportDividesOutputKeepGoing (going_on wanted) bytes
 unfolding by_transfers faults_after
 cuts_on wanted bytes =
     let now = going_on wanted in

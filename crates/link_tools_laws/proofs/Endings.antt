@@ -8,7 +8,7 @@ use Rattle.link_wire.specs.{Bytes.{IsByte, AreBytes}, Limits.longest_head}
 use Rattle.link_wire.specs.Message.{contact_at, message_at, fields_at, data_length}
 use Rattle.link_wire.specs.Part.{bytes_at, number_at}
 use Rattle.link_wire.specs.Spelled.{HeadSpelled}
-use Rattle.link_wire.specs.SpelledStream.{NoneBegins, IsEnd, IsStream, IsReadingBy, IsReading}
+use Rattle.link_wire.specs.SpelledStream.{HasNoSpelledPrefix, IsEnd, IsStream, IsReadingBy, IsReadingOf}
 use Rattle.link_wire.specs.Stream.{Entry, End, Clean, Cut, Fault, Stream, ended, with_entry, stream_at, Reading, reading_by, reading_of}
 use Rattle.link_wire.specs.declared.fault.{WireFault.WireFault, WireFault.TheVariants.{Truncated, UnknownType}}
 use Rattle.link_wire.specs.declared.message.{Contact.Contact, Message.Message}
@@ -118,12 +118,12 @@ record Extends (entries : List Entry) (end : End) (offset : ℕ) (bytes : List �
   same : end ≡ Clean → added ≡ []
 
 -- every list of bytes has its reading
-module _ (some : (bytes : List ℕ) → AreBytes bytes → IsReading bytes (reading_of bytes)) where
+module _ (some : (bytes : List ℕ) → AreBytes bytes → IsReadingOf bytes (reading_of bytes)) where
   stream_stands : (bytes : List ℕ) → AreBytes bytes
       → IsStream (stream_at 6 bytes).entries (stream_at 6 bytes).end 6 bytes
   stream_stands bytes are =
-      let reads : IsReading (header ++ bytes) (reading_by (Ok (plain, bytes))) =
-      subst (IsReading (header ++ bytes)) (after_header bytes)
+      let reads : IsReadingOf (header ++ bytes) (reading_by (Ok (plain, bytes))) =
+      subst (IsReadingOf (header ++ bytes)) (after_header bytes)
       (some (header ++ bytes) (All-append IsByte header bytes header_are are)) in
       let parts : header ++ bytes ≡ header ++ reads.after =
       reads.parts ∙ ap (λ (text : List ℕ). text ++ reads.after) reads.is_first.1 in
@@ -180,7 +180,7 @@ module _ (some : (bytes : List ℕ) → AreBytes bytes → IsReading bytes (read
       }
 
   abbrev NoHead : List ℕ → Type 0
-  NoHead bytes = (message : Message) → NoneBegins (HeadSpelled message) bytes
+  NoHead bytes = (message : Message) → HasNoSpelledPrefix (HeadSpelled message) bytes
 
   -- one more byte completes a head, so the head has all bytes
   last_byte : (message : Message) (bytes : List ℕ) → NoHead bytes
@@ -357,8 +357,8 @@ pub record ReadingHalts (bytes : List ℕ) (before : Reading) : Type 0 where
       → ((reading_of (bytes ++ more)).contact ≡ before.contact)
       × ((reading_of (bytes ++ more)).entries ≡ before.entries)
 
-module _ (some : (bytes : List ℕ) → AreBytes bytes → IsReading bytes (reading_of bytes))
-    (only : (bytes : List ℕ) (reading : Reading) → IsReading bytes reading
+module _ (some : (bytes : List ℕ) → AreBytes bytes → IsReadingOf bytes (reading_of bytes))
+    (only : (bytes : List ℕ) (reading : Reading) → IsReadingOf bytes reading
     → reading ≡ reading_of bytes) where
   contact_halts : (bytes : List ℕ) → AreBytes bytes → (contact : Contact) (entries : List Entry)
       (end : End) → IsReadingBy (Some contact) entries end bytes

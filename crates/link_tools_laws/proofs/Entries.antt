@@ -6,7 +6,7 @@ use Rattle.std.proofs.lemmas.{List.Elements.{All-take, All-drop, All-nil}}
 use Rattle.link_cbor.specs.PieceLaws.{takes_shortest}
 use Rattle.link_tool_option_types.specs.declared.pack.PackOptions.{PackOptions}
 use Rattle.link_wire.specs.{Bytes.{IsByte, AreBytes}, Message.data_length, Spelled.HeadSpelled}
-use Rattle.link_wire.specs.{SpelledStream.{IsStream, IsReading}, declared.message.Message.Message}
+use Rattle.link_wire.specs.{SpelledStream.{IsStream, IsReadingOf}, declared.message.Message.Message}
 use Rattle.link_wire.specs.declared.message.Message.TheVariants.{SessTerm}
 use Rattle.link_wire.specs.Stream.{Entry, End, Clean, Reading}
 use Rattle.link_wire.specs.Spelling.{segment_head_bytes, segment_with, sess_init_bytes, sess_term_bytes, sess_init_with}
@@ -15,9 +15,9 @@ use Rattle.link_bundle_types.specs.declared.info.BundleInfo.{BundleInfo}
 use Rattle.link_bundle_blocks.specs.Bundle.{verdict, bundle_goes}
 use Rattle.link_transfer.specs.{Chunks.chunk_at, Cutting.{announcement, due}}
 use Rattle.link_run.proofs.Continued.{entry}
-use Rattle.link_run_over_bundle_files.specs.Bundles.{Packed, Refusal, Rest, Divided, bundle_prefix, judged_front, accepted_by, divided_by, divided_in, divided}
+use Rattle.link_run_over_bundle_files.specs.Bundles.{BundleWithInfo, Refusal, TailAfterBundles, Divided, bundle_prefix, judged_front, accepted_by, divided_by, divided_in, divided}
 use Rattle.link_run_over_bundle_files.proofs.{Dividing.{whole_stops, some_stopped}, Outcomes.whole_of}
-use Rattle.link_tool_pack.specs.Segments.{Sending, cutting_of, cut_at, flags_of, segment_bytes, segments_from, segments_of}
+use Rattle.link_tool_pack.specs.Segments.{BundleToCut, cutting_of, cut_at, flags_of, segment_bytes, segments_from, segments_of}
 use Rattle.link_tool_pack.specs.Packing.{prelude_bytes, sending, transfer_bytes, end_bytes, packing_by}
 use Rattle.link_tool_pack.proofs.Moved.{announcement_fits, head_spelled}
 use Rattle.link_tools_laws.specs.Ranges.{OptionsFit}
@@ -25,25 +25,25 @@ use Rattle.link_tools_laws.specs.Ranges.{OptionsFit}
 -- ---- the parts of an input: bundles that the peer takes, and the rest after them
 
 -- a bundle that the peer takes
-pub record IsBundle (limit : ℕ) (bundle : Packed) : Type 0 where
+pub record IsBundle (limit : ℕ) (bundle : BundleWithInfo) : Type 0 where
   pub some : 0 < length bundle.bytes
   pub within : length bundle.bytes ≤ limit
   pub are : AreBytes bundle.bytes
   pub is : verdict bundle.bytes ≡ Ok bundle.info
 
-abbrev pub AreBundles : (limit : ℕ) → List Packed → Type 0
+abbrev pub AreBundles : (limit : ℕ) → List BundleWithInfo → Type 0
 AreBundles limit [] = Unit {0}
 AreBundles limit (bundle ∷ more) = IsBundle limit bundle × AreBundles limit more
 
 -- the bytes of all these bundles, joined
-abbrev pub contents : List Packed → List ℕ
+abbrev pub contents : List BundleWithInfo → List ℕ
 contents [] = []
 contents (bundle ∷ more) = bundle.bytes ++ contents more
 
 -- the accepted bytes of the bundle that is refused
-pub record IsRest (limit : ℕ) (rest : Rest) : Type 0 where
-  pub within : length rest.accepted ≤ limit
-  pub are : AreBytes rest.accepted
+pub record IsRest (limit : ℕ) (rest : TailAfterBundles) : Type 0 where
+  pub within : length rest.before_fault ≤ limit
+  pub are : AreBytes rest.before_fault
 
 pub record IsDivided (limit : ℕ) (bytes : List ℕ) (input : Divided) : Type 0 where
   pub bundles : AreBundles limit input.bundles
@@ -153,26 +153,26 @@ stream_plain offset message head spells none =
 -- ---- the segments of a transfer
 
 -- chunk number `k`, and the message whose data it is
-abbrev pub chunk_of : Sending → (k : ℕ) → List ℕ
+abbrev pub chunk_of : BundleToCut → (k : ℕ) → List ℕ
 chunk_of sending k = chunk_at sending.segment k sending.bundle
 
-abbrev pub message_of : (id : ℕ) → Sending → (k : ℕ) → Message
+abbrev pub message_of : (id : ℕ) → BundleToCut → (k : ℕ) → Message
 message_of id sending k = segment_with (flags_of (cut_at sending k).first (cut_at sending k).last) id (length (chunk_of sending k)) (cut_at sending k).announce
 
 -- the messages of `count` segments from chunk number `k` on
-unfoldable pub segment_entries : (id : ℕ) → Sending → (k count offset : ℕ) → List Entry
+unfoldable pub segment_entries : (id : ℕ) → BundleToCut → (k count offset : ℕ) → List Entry
 segment_entries id sending k zero offset = []
 segment_entries id sending k (suc count) offset =
     entry offset (message_of id sending k) (chunk_of sending k)
     ∷ segment_entries id sending (suc k) count (offset + length (segment_bytes id (cut_at sending k) (chunk_of sending k)))
 
 -- the conditions under which segments are made
-pub record SendingFits (sending : Sending) : Type 0 where
+pub record SendingFits (sending : BundleToCut) : Type 0 where
   pub small : sending.segment ≤ 65536
   pub hold : sending.hold ≤ 1048576
   pub are : AreBytes sending.bundle
 
-module _ (id : ℕ) (sending : Sending) (fits : SendingFits sending) (id_fits : id < 2 ^ 64) where
+module _ (id : ℕ) (sending : BundleToCut) (fits : SendingFits sending) (id_fits : id < 2 ^ 64) where
   small_chunk : (k : ℕ) → length (chunk_of sending k) < 2 ^ 64
   small_chunk k = grind (arith, length-take)
 
@@ -195,7 +195,7 @@ module _ (id : ℕ) (sending : Sending) (fits : SendingFits sending) (id_fits : 
 
 -- ---- the messages
 
-abbrev pub due_entries : (id : ℕ) → Sending → (offset : ℕ) → List Entry
+abbrev pub due_entries : (id : ℕ) → BundleToCut → (offset : ℕ) → List Entry
 due_entries id sending offset = segment_entries id sending 0 (due (cutting_of sending)) offset
 
 module _ (options : PackOptions) where
@@ -206,7 +206,7 @@ module _ (options : PackOptions) where
   init_entry = entry 6 (sess_init_with options.keepalive options.segment_mru options.transfer_mru options.node.items) []
 
   -- the messages of these bundles
-  unfoldable pub bundle_entries : (number : ℕ) → List Packed → (offset : ℕ) → List Entry
+  unfoldable pub bundle_entries : (number : ℕ) → List BundleWithInfo → (offset : ℕ) → List Entry
   bundle_entries number [] offset = []
   bundle_entries number (bundle ∷ more) offset =
       let whole = sending options true bundle.bytes in
@@ -217,10 +217,10 @@ module _ (options : PackOptions) where
   term_entries false offset = []
 
   -- those after the bundles: SESS_TERM, or what is due of the bundle that is refused
-  abbrev pub end_entries : (number : ℕ) → Option Rest → (offset : ℕ) → List Entry
+  abbrev pub end_entries : (number : ℕ) → Option TailAfterBundles → (offset : ℕ) → List Entry
   end_entries number None offset = term_entries options.send_term offset
   end_entries number (Some rest) offset =
-      due_entries number (sending options false rest.accepted) offset
+      due_entries number (sending options false rest.before_fault) offset
 
   module _ (input : Divided) where
     -- the bytes of SESS_INIT and of the bundles
@@ -248,7 +248,7 @@ module _ (options : PackOptions) where
       → SendingFits (sending options whole bundle)
   sending_fits whole bundle are = record { small = omega arith; hold = options.hold; are = are }
 
-  bundle_stream : (number : ℕ) (bundles : List Packed) (offset : ℕ)
+  bundle_stream : (number : ℕ) (bundles : List BundleWithInfo) (offset : ℕ)
       → AreBundles options.peer_transfer bundles → number + length bundles ≤ 2 ^ 64
       → IsStream (bundle_entries options number bundles offset) Clean offset
       (transfer_bytes options number bundles)
@@ -268,11 +268,11 @@ module _ (options : PackOptions) where
   term_stream false offset = refl
 
   -- the bytes after the bundles
-  abbrev last_bytes : (number : ℕ) → Option Rest → List ℕ
+  abbrev last_bytes : (number : ℕ) → Option TailAfterBundles → List ℕ
   last_bytes number None = end_bytes options
-  last_bytes number (Some rest) = segments_of number (sending options false rest.accepted)
+  last_bytes number (Some rest) = segments_of number (sending options false rest.before_fault)
 
-  end_stream : (number : ℕ) (rest : Option Rest) (offset : ℕ)
+  end_stream : (number : ℕ) (rest : Option TailAfterBundles) (offset : ℕ)
       → IfSome rest (IsRest options.peer_transfer) → number < 2 ^ 64
       → IsStream (end_entries options number rest offset) Clean offset (last_bytes number rest)
   end_stream number rest offset is few = grind (arith, segments_stream, sending_fits, term_stream)
@@ -299,7 +299,7 @@ module _ (options : PackOptions) where
           (end_stream number input.rest after rest few)
 
       -- a packed stream is read as these messages
-      pub packed_is : IsReading (whole_of (packing_by options input)).texts.output
+      pub packed_is : IsReadingOf (whole_of (packing_by options input)).texts.output
           (packed_reading options input)
       unfolding prelude_bytes
       packed_is = grind (arith, append-nil, contact_spelled, append-assoc_five, packed_stream)

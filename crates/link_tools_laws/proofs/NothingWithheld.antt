@@ -21,7 +21,7 @@ use Rattle.link_run_over_transfers.specs.Walk.{Head, abandons, closes, WalkEvent
 use Rattle.link_run_judge.specs.Transfers.{Transfer}
 use Rattle.link_run_judge.specs.Unpacking.{parts_of, entry_of, line_due, order_line, Told, with_line, with_order, with_transfers, told_head, told_more, told_event, told_after, unpack_telling, unpack_tool}
 use Rattle.link_run_judge.proofs.Events.{told_push}
-use Rattle.link_tools_laws.specs.{Prefix.IsPrefixOf, Withheld.{AreLines, output_of, report_of, IsShared, WithholdsNothing}}
+use Rattle.link_tools_laws.specs.{Prefix.IsPrefixOf, Withheld.{AreLines, output_of, report_of, IsPrefixWhateverFollows, HasLongestSoFar}}
 use Rattle.link_tools_laws.proofs.Endings.{ReadingHalts}
 use Rattle.link_tools_laws.proofs.FaultLines.{cut_line, part_wire, part_order, part_transfer, transfer_part}
 use Rattle.link_tools_laws.proofs.{Prefixes.whole_output, Walks.events_grow}
@@ -49,7 +49,7 @@ module _ (made : List ℕ → Made) (bytes more : List ℕ) (are : AreBytes more
   abbrev here : Made
   here = made bytes
 
-  all_output : (common : List ℕ) → IsShared output_of (tool_of made) bytes common
+  all_output : (common : List ℕ) → IsPrefixWhateverFollows output_of (tool_of made) bytes common
       → IsPrefixOf common (so_far_by here.stop here.texts).output
   all_output common shared =
       let is : (whole_by (made (bytes ++ [])).stop (made (bytes ++ []))).texts.output
@@ -59,7 +59,7 @@ module _ (made : List ℕ → Made) (bytes more : List ℕ) (are : AreBytes more
       rw is at (shared [] (All-nil IsByte))
 
   all_report : (common : List ℕ) → AreLines common
-      → IsShared report_of (tool_of made) bytes common
+      → IsPrefixWhateverFollows report_of (tool_of made) bytes common
       → IsPrefixOf common (so_far_by here.stop here.texts).report
   all_report common lines shared =
       let whole : IsPrefixOf common (whole_by here.stop here).texts.report =
@@ -74,7 +74,7 @@ module _ (made : List ℕ → Made) (bytes more : List ℕ) (are : AreBytes more
       (rw far.ends at whole) (rw far.goes_on at (shared more are))))
       (cases_Bool (shows_fault here.stop))
 
-  pub withholds_nothing : WithholdsNothing (tool_of made) bytes
+  pub withholds_nothing : HasLongestSoFar (tool_of made) bytes
   withholds_nothing = record { output = all_output; report = all_report }
 
 -- ---- where a stream stops
@@ -119,7 +119,7 @@ module _ (before after : Reading) (place : ℕ) (fault : WireFault)
       (unshown_end before.end unshown)
 
 pub list_withholds_nothing : (bytes : List ℕ) → ReadingHalts bytes (reading_of bytes)
-    → WithholdsNothing list_tool bytes
+    → HasLongestSoFar list_tool bytes
 unfolding listing_of
 list_withholds_nothing bytes halts =
     withholds_nothing listing_of bytes halts.more halts.are refl
@@ -364,7 +364,7 @@ module _ (wanted : Wanted) where
       ∙ left_output (told_after wanted was.events) (is_some (open_of was.taken))
 
   pub unpack_withholds_nothing : (bytes : List ℕ) → ReadingHalts bytes (reading_of bytes)
-      → WithholdsNothing (unpack_tool wanted) bytes
+      → HasLongestSoFar (unpack_tool wanted) bytes
   unfolding told_of
   unpack_withholds_nothing bytes halts =
       withholds_nothing (told_of (unpack_telling wanted)) bytes halts.more halts.are

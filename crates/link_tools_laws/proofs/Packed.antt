@@ -3,7 +3,7 @@ use Rattle.std.specs.{Prelude.IfSome, List.All}
 use Rattle.std.proofs.Common.{◌≡◌, ℕ, List, None, refl, ap, sym, ◌∙◌, arith, ◌⊎◌, Bool, true, [], length, Option, Some, length-take, suc, ◌∷◌, ◌++◌, Ok, append-nil, append_assoc, length-append, zero, ◌+◌, ap₂}
 use Rattle.std.proofs.lemmas.{List.Elements.All-nil, Bool.eq-eqb}
 use Rattle.link_tool_option_types.specs.declared.pack.PackOptions.{PackOptions}
-use Rattle.link_wire.specs.{SpelledStream.IsReading, Stream.{Reading, reading_of, heads_of}}
+use Rattle.link_wire.specs.{SpelledStream.IsReadingOf, Stream.{Reading, reading_of, heads_of}}
 use Rattle.link_wire.specs.Spelling.{announced, announce_bytes, total_bytes, segment_head_bytes, sess_init_bytes}
 use Rattle.link_bundle_blocks.specs.Bundle.{verdict}
 use Rattle.link_transfer.specs.{Announced.announced_of, Cutting.{Cutting, announcement, due}}
@@ -14,9 +14,9 @@ use Rattle.link_run_over_transfers.proofs.Heads.{heads_clean}
 use Rattle.link_run_judge.specs.{Transfers.Transfer, Unpacking.{parts_of, judgement_of}}
 use Rattle.link_run_judge.proofs.Texts.{parts_more}
 use Rattle.link_tool_list.specs.Listing.{listing_of, message_lines}
-use Rattle.link_run_over_bundle_files.specs.Bundles.{Packed, Divided, divided, Rest}
+use Rattle.link_run_over_bundle_files.specs.Bundles.{BundleWithInfo, Divided, divided, TailAfterBundles}
 use Rattle.link_tool_pack.specs.Packing.{packing_of, pack_tool, sending, transfer_bytes}
-use Rattle.link_tool_pack.specs.Segments.{cutting_of, Sending, cut_at, segment_bytes, segments_from}
+use Rattle.link_tool_pack.specs.Segments.{cutting_of, BundleToCut, cut_at, segment_bytes, segments_from}
 use Rattle.link_tools_laws.specs.{Ranges.{OptionsFit, InputFits}, RoundTrip.{all, good_lines, UnpacksToBundles}}
 use Rattle.link_tools_laws.specs.PackedStream.{TransferFits, IsStreamForPeer}
 use Rattle.link_tools_laws.specs.Transfers.{lines_of, are_good, by_transfers}
@@ -31,7 +31,7 @@ module _ (options : PackOptions) (bytes : List ℕ) where
   abbrev pub input : Divided
   input = divided options.peer_transfer bytes
 
-  abbrev pub bundles : List Packed
+  abbrev pub bundles : List BundleWithInfo
   bundles = input.bundles
 
   -- what comes of packing it
@@ -51,7 +51,7 @@ module _ (options : PackOptions) (bytes : List ℕ) where
 
   pub is_packed : OptionsFit options → InputFits bytes
       → ((stream : List ℕ) (reading : Reading)
-      → IsReading stream reading → reading ≡ reading_of stream)
+      → IsReadingOf stream reading → reading ≡ reading_of stream)
       → IsPacked
   unfolding packing_of
   is_packed fit fits only =
@@ -90,12 +90,12 @@ unfolding announcement
 announces so_far = grind (arith, none_announced, total_announced)
 
 module _ (options : PackOptions) where
-  bundle_kept : (number : ℕ) (bundle : Packed) → IsBundle options.peer_transfer bundle
+  bundle_kept : (number : ℕ) (bundle : BundleWithInfo) → IsBundle options.peer_transfer bundle
       → TransferFits options (transfer_of options number bundle)
   bundle_kept number bundle is =
       (is.within, announces (cutting_of (sending options true bundle.bytes)))
 
-  rest_kept : (number : ℕ) (rest : Option Rest) (earlier : List Transfer)
+  rest_kept : (number : ℕ) (rest : Option TailAfterBundles) (earlier : List Transfer)
       → IfSome rest (IsRest options.peer_transfer) → All (TransferFits options) earlier
       → All (TransferFits options) (rest_onto options number rest earlier)
   rest_kept number rest earlier is kept = grind (arith, announces, length-take)
@@ -116,21 +116,21 @@ keeps options bytes is =
 -- ---- a bundle
 
 module _ (options : PackOptions) where
-  judged_good : (number : ℕ) (bundle : Packed) → verdict bundle.bytes ≡ Ok bundle.info
+  judged_good : (number : ℕ) (bundle : BundleWithInfo) → verdict bundle.bytes ≡ Ok bundle.info
       → judgement_of (transfer_of options number bundle) ≡ Good bundle.info
   judged_good number bundle is = grind (arith, announces, eq-eqb)
 
   -- ---- all bundles
 
   -- what these bundles add to the output and to the report
-  record AddsAll (number : ℕ) (bundles : List Packed) (earlier : List Transfer) : Type 0 where
+  record AddsAll (number : ℕ) (bundles : List BundleWithInfo) (earlier : List Transfer) : Type 0 where
     pub parts : parts_of all (onto options number bundles earlier)
         ≡ parts_of all earlier ++ contents bundles
     pub lines : lines_of all (onto options number bundles earlier)
         ≡ lines_of all earlier ++ good_lines number (length (parts_of all earlier)) bundles
     pub good : are_good earlier ≡ true → are_good (onto options number bundles earlier) ≡ true
 
-  adds_all : (number : ℕ) (bundles : List Packed) (earlier : List Transfer)
+  adds_all : (number : ℕ) (bundles : List BundleWithInfo) (earlier : List Transfer)
       → AreBundles options.peer_transfer bundles → AddsAll number bundles earlier
   unfolding onto good_lines lines_of are_good
   adds_all number [] earlier are = record {
@@ -165,7 +165,7 @@ length-init : (interval segment_mru transfer_mru : ℕ) (node : List ℕ)
 unfolding sess_init_bytes
 length-init interval segment_mru transfer_mru node = grind (arith, length-append)
 
-module _ (id : ℕ) (sending : Sending) where
+module _ (id : ℕ) (sending : BundleToCut) where
   length-segment : (k : ℕ)
       → length (segment_bytes id (cut_at sending k) (chunk_of sending k)) ≡ size_of_segment sending k
   unfolding segment_head_bytes announce_bytes total_bytes
@@ -194,7 +194,7 @@ module _ (options : PackOptions) where
   unfolding message_lines
   term_listed asked offset = grind (arith, append-nil)
 
-  bundles_listed : (number : ℕ) (bundles : List Packed) (offset after : ℕ)
+  bundles_listed : (number : ℕ) (bundles : List BundleWithInfo) (offset after : ℕ)
       → after ≡ offset + length (transfer_bytes options number bundles)
       → message_lines (bundle_entries options number bundles offset
       ++ term_entries options options.send_term after)
@@ -214,7 +214,7 @@ module _ (options : PackOptions) where
       ∙ ap₂ (λ (a b : List ℕ). a ++ b) (segments_listed number whole 0 count offset)
       (bundles_listed (suc number) more next after follows ∙ ap (λ n. bundle_lines options (suc number) (offset + n) more) (length-segments number whole 0 count))
 
-  messages_listed : (bundles : List Packed)
+  messages_listed : (bundles : List BundleWithInfo)
       → message_lines (packed_entries options (record { bundles = bundles; rest = None }))
       ≡ message_text 6 (init_entry options).message
       ++ bundle_lines options 0 (31 + length options.node.items) bundles

@@ -14,17 +14,17 @@ use Rattle.link_transfer.specs.{Announced.announced_of, Chunks.chunk_count, Cutt
 use Rattle.link_transfer.specs.{Order.{open_of, with_taken}, Event.event_of}
 use Rattle.link_transfer.specs.declared.joiner.Turn.{Turn}
 use Rattle.link_transfer.proofs.{Joining.IsJoinerAt-none, Due.chunk_left}
-use Rattle.link_session_rules.specs.{Heads.HeadWithJudgement, MessageRules.broken_rules}
+use Rattle.link_session_rules.specs.{Heads.HeadWithOrder, MessageRules.broken_rules}
 use Rattle.link_session_rules.specs.{Lengths.{segments_of, peer_transfer}, Flags.contact_flags}
 use Rattle.link_session_rules.specs.TransferRules.{broken_transfer_rules, length_item, length_differs, length_of_one_segment}
 use Rattle.link_report_broken_rules.specs.declared.line.RuleText.{RuleText}
 use Rattle.link_run_over_transfers.specs.Walk.{head_at, WalkEvent, Data, Whole, data_events, content_events, walked_of, end_events}
 use Rattle.link_run_judge.specs.Transfers.{Transfer}
-use Rattle.link_run_over_bundle_files.specs.Bundles.{Packed, Divided, divided}
-use Rattle.link_tool_check.specs.Checking.{judged, Begun, begun_by, closed_rules, latest_with}
+use Rattle.link_run_over_bundle_files.specs.Bundles.{BundleWithInfo, Divided, divided}
+use Rattle.link_tool_check.specs.Checking.{judged, BegunTransfer, begun_by, closed_rules, latest_with}
 use Rattle.link_tool_check.specs.{BundleRules.bundle_rules, Lines.at_offset}
-use Rattle.link_tool_pack.specs.{Packing.{segment_size, sending}, Segments.{Sending, cut_at}}
-use Rattle.link_tools_laws.specs.{PackedRules.{AllowsLimits, KeepsInitRules, BreaksNoMore}, RoundTrip.all}
+use Rattle.link_tool_pack.specs.{Packing.{segment_size, sending}, Segments.{BundleToCut, cut_at}}
+use Rattle.link_tools_laws.specs.{PackedRules.{IsWithinPeerLimits, OptionsKeepInitRules, BreaksNoMoreThanItsBundles}, RoundTrip.all}
 use Rattle.link_tools_laws.specs.SameRules.{is_of_bundle, reports}
 use Rattle.link_tools_laws.proofs.Carried.{ToKeep, Come, onto, packed_come, term_come, onto_all, packed_transfers}
 use Rattle.link_tools_laws.proofs.ClearHeads.{segment_clear, init_clear, term_clear, new_id, next_id, IsAtMost, exceeds_none, short_none, fresh, carrying, may_come, turn_at, turn_for, none_abandoned, earlier_is, head_of, last_at, segment_at, heads_back, first_back, size_back, At, now_is, ends_as}
@@ -40,7 +40,7 @@ use Rattle.link_tools_laws.proofs.SameRules as same
 
 -- ---- the messages break no rule of messages
 
-module _ (options : PackOptions) (peer : PeerLimits) (allows : AllowsLimits options peer) where
+module _ (options : PackOptions) (peer : PeerLimits) (allows : IsWithinPeerLimits options peer) where
   -- a message breaks no rule of messages, and no transfer is open at the end
   abbrev pub Clear : ToKeep
   Clear taken before head =
@@ -52,15 +52,15 @@ module _ (options : PackOptions) (peer : PeerLimits) (allows : AllowsLimits opti
   module _ (id k offset : ℕ) (whole : Bool) (bytes : List ℕ)
       (within : length bytes ≤ options.peer_transfer)
       (few : k < chunk_count (segment_size options) (length bytes))
-      (taken : List Message) (before : List HeadWithJudgement)
+      (taken : List Message) (before : List HeadWithOrder)
       (at : At id (sending options whole bytes) k taken before) where
-    abbrev part : Sending
+    abbrev part : BundleToCut
     part = sending options whole bytes
 
     abbrev last : Bool
     last = last_at id part k
 
-    abbrev seen : HeadWithJudgement
+    abbrev seen : HeadWithOrder
     seen = record {
       message = message_of id part k;
       fault = None;
@@ -101,7 +101,7 @@ module _ (options : PackOptions) (peer : PeerLimits) (allows : AllowsLimits opti
         (transfer_within peer.transfer allows.transfer))
 
   -- the messages of a packed stream whose input has no fault
-  pub packed_clear : KeepsInitRules options → (bundles : List Packed)
+  pub packed_clear : OptionsKeepInitRules options → (bundles : List BundleWithInfo)
       → AreBundles options.peer_transfer bundles
       → Come Clear Closed [] [] []
       (packed_entries options (record { bundles = bundles; rest = None }))
@@ -127,13 +127,13 @@ module _ (options : PackOptions) (peer : PeerLimits) (allows : AllowsLimits opti
 
 module _ (peer : PeerLimits) where
   -- these events break only rules of closed transfers, whichever transfer began last
-  abbrev OnlyClosed : (before : List HeadWithJudgement) → List WalkEvent → Type 0
+  abbrev OnlyClosed : (before : List HeadWithOrder) → List WalkEvent → Type 0
   OnlyClosed before events =
-      (latest : Option Begun)
+      (latest : Option BegunTransfer)
       → passing is_closed (broken_from peer before latest events)
       ≡ broken_from peer before latest events
 
-  bytes_closed : (bytes : List ℕ) (whole : Bool) (before : List HeadWithJudgement)
+  bytes_closed : (bytes : List ℕ) (whole : Bool) (before : List HeadWithOrder)
       (rest : List WalkEvent) → OnlyClosed before rest
       → OnlyClosed before ((data_events bytes ++ (if whole then Whole ∷ [] else [])) ++ rest)
   bytes_closed [] true before rest only latest =
@@ -142,18 +142,18 @@ module _ (peer : PeerLimits) where
   bytes_closed (byte ∷ bytes) whole before rest only latest =
       bytes_closed bytes whole before rest only (latest_with latest (Data byte))
 
-  content_closed : (effect : Option Turn) (size : ℕ) (content : List ℕ) (before : List HeadWithJudgement)
+  content_closed : (effect : Option Turn) (size : ℕ) (content : List ℕ) (before : List HeadWithOrder)
       (rest : List WalkEvent) → OnlyClosed before rest
       → OnlyClosed before (content_events effect size content ++ rest)
   content_closed effect size content before rest only = grind (arith, bytes_closed)
 
-  module _ (options : PackOptions) (allows : AllowsLimits options peer) where
-    abbrev IsClear : List Message → (before : List HeadWithJudgement) → List Transfer → List Entry → Type 0
+  module _ (options : PackOptions) (allows : IsWithinPeerLimits options peer) where
+    abbrev IsClear : List Message → (before : List HeadWithOrder) → List Transfer → List Entry → Type 0
     IsClear taken before transfers heads =
         Come (Clear options peer allows) (Closed options peer allows) taken before transfers heads
 
     -- and they leave no transfer open
-    heads_closed : (heads : List Entry) (taken : List Message) (before : List HeadWithJudgement)
+    heads_closed : (heads : List Entry) (taken : List Message) (before : List HeadWithOrder)
         (transfers : List Transfer) → IsClear taken before transfers heads
         → OnlyClosed before (walk_events true taken heads)
         × (is_some (open_of (taken_by true taken heads)) ≡ false)
@@ -217,7 +217,7 @@ only_bundles (latest ∷ earlier) none =
 -- ---- the transfers of a packed stream
 
 module _ (options : PackOptions) (id : ℕ) (bundle : List ℕ) where
-  abbrev whole : Sending
+  abbrev whole : BundleToCut
   whole = sending options true bundle
 
   abbrev first : SegmentHead
@@ -236,11 +236,11 @@ module _ (options : PackOptions) (id : ℕ) (bundle : List ℕ) where
 
 module _ (options : PackOptions) (bytes : List ℕ) (is_packed : IsPacked options bytes)
     (status : (packed options bytes).status ≡ 0) (peer : PeerLimits)
-    (allows : AllowsLimits options peer) (keeps : KeepsInitRules options) where
+    (allows : IsWithinPeerLimits options peer) (keeps : OptionsKeepInitRules options) where
   abbrev stream : List ℕ
   stream = (packed options bytes).texts.output
 
-  abbrev bundles : List Packed
+  abbrev bundles : List BundleWithInfo
   bundles = (divided options.peer_transfer bytes).bundles
 
   abbrev all_bundles : Divided
@@ -280,7 +280,7 @@ module _ (options : PackOptions) (bytes : List ℕ) (is_packed : IsPacked option
       (λ number bundle is. transfer_none options number bundle.bytes bundle.info is.is) 0 bundles []
       is_packed.divides.bundles (All-nil BreaksNone))
 
-  pub breaks_no_more : BreaksNoMore peer bytes stream
+  pub breaks_no_more : BreaksNoMoreThanItsBundles peer bytes stream
   breaks_no_more =
       let carries = same.carries peer stream clean in
       let rules = (same.placed peer stream clean).rules ∙ closed in

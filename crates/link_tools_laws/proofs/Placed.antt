@@ -13,7 +13,7 @@ use Rattle.link_bundle_types.specs.declared.fault.BundleFault.{BundleFault}
 use Rattle.link_bundle_types.specs.declared.info.BundleInfo.{BundleInfo}
 use Rattle.link_bundle_blocks.specs.Bundle.{verdict}
 use Rattle.link_transfer.specs.{declared.fault.OrderFault.OrderFault, declared.joiner.Turn.Turn}
-use Rattle.link_session_rules.specs.{Heads.HeadWithJudgement, Flags.contact_flags, TransferData.data_rule}
+use Rattle.link_session_rules.specs.{Heads.HeadWithOrder, Flags.contact_flags, TransferData.data_rule}
 use Rattle.link_session_rules.specs.TransferRules.{broken_transfer_rules, length_item, length_differs, length_of_one_segment}
 use Rattle.link_session_rules.specs.declared.rule.MessageRule.{MessageRule}
 use Rattle.link_session_rules.specs.declared.rule.TransferRule.TheVariants.{Unfinished}
@@ -28,7 +28,7 @@ use Rattle.link_run_judge.specs.Transfers.{Transfer, continued}
 use Rattle.link_run_judge.specs.Unpacking.{Told, transfers_at, told_event, told_after, none_told}
 use Rattle.link_run_judge.proofs.Effects.{zero_eq, Does, Strays, Passes, Begins, Continues, comes_does}
 use Rattle.link_run_judge.proofs.Heads.{transfers_same, transfer_begins, transfer_continues}
-use Rattle.link_tool_check.specs.Checking.{Begun, Kept, broken_by, heads_with, latest_with, checking, optional, data_rules, closed_rules, rules_at, with_bytes}
+use Rattle.link_tool_check.specs.Checking.{BegunTransfer, Kept, broken_by, heads_with, latest_with, checking, optional, data_rules, closed_rules, rules_at, with_bytes}
 use Rattle.link_tool_check.specs.Lines.{counts, line_of, lines_of, none_counts, at_offset}
 use Rattle.link_tool_check.specs.BundleRules.{bundle_rules}
 use Rattle.link_tools_laws.proofs.Prefixes.{IsFront, front_first, front_after, front_none}
@@ -59,11 +59,11 @@ module _ (peer : PeerLimits) where
   options must = record { must = must; peer = peer }
 
   -- the rules that are broken with this event, after these heads
-  abbrev pub broken_with : List HeadWithJudgement → (latest : Option Begun) → WalkEvent → List RuleText
+  abbrev pub broken_with : List HeadWithOrder → (latest : Option BegunTransfer) → WalkEvent → List RuleText
   broken_with heads latest event =
       broken_by (options false) (record { heads = heads; latest = latest; good = true }) event
 
-  abbrev pub broken_from : List HeadWithJudgement → (latest : Option Begun) → List WalkEvent
+  abbrev pub broken_from : List HeadWithOrder → (latest : Option BegunTransfer) → List WalkEvent
       → List RuleText
   broken_from heads latest [] = []
   broken_from heads latest (event ∷ more) =
@@ -71,7 +71,7 @@ module _ (peer : PeerLimits) where
       ++ broken_from (heads_with heads event) (latest_with latest event) more
 
   -- the rules that events break come before those that are broken with more
-  pub broken_first : (heads : List HeadWithJudgement) (latest : Option Begun) (events more : List WalkEvent)
+  pub broken_first : (heads : List HeadWithOrder) (latest : Option BegunTransfer) (events more : List WalkEvent)
       → IsFront (broken_from heads latest events) (broken_from heads latest (events ++ more))
   broken_first heads latest [] more = front_none _
   broken_first heads latest (event ∷ events) more =
@@ -80,7 +80,7 @@ module _ (peer : PeerLimits) where
 
   module _ (must : Bool) where
     -- if none of the rules counts that more events break, none does that these break
-    pub none_before : (heads : List HeadWithJudgement) (latest : Option Begun)
+    pub none_before : (heads : List HeadWithOrder) (latest : Option BegunTransfer)
         (events more : List WalkEvent) → IsFront events more
         → none_counts must (broken_from heads latest more) ≡ true
         → none_counts must (broken_from heads latest events) ≡ true
@@ -137,7 +137,7 @@ pub record Placed : Type 0 where
 abbrev pub transfers_in : List Placed → List Transfer
 transfers_in placed = map (λ (one : Placed). one.transfer) placed
 
-abbrev pub begun_of : Placed → Begun
+abbrev pub begun_of : Placed → BegunTransfer
 begun_of placed = record {
   offset = placed.offset;
   first = placed.transfer.first;
@@ -145,7 +145,7 @@ begun_of placed = record {
 }
 
 -- the latest transfer is not closed, and is the one that began last
-abbrev pub IsOpenAt : (latest : Option Begun) → List Placed → Type 0
+abbrev pub IsOpenAt : (latest : Option BegunTransfer) → List Placed → Type 0
 IsOpenAt latest [] = ⊥
 IsOpenAt latest (placed ∷ earlier) =
     (placed.transfer.closed ≡ false) × (latest ≡ Some (begun_of placed))
@@ -190,7 +190,7 @@ module _ (offset id : ℕ) where
   unfolding broken_transfer_rules length_item length_differs length_of_one_segment
   length_closed first size = grind arith
 
-pub all_closed : (latest : Option Begun)
+pub all_closed : (latest : Option BegunTransfer)
     → passing is_closed (rules_at closed_rules latest) ≡ rules_at closed_rules latest
 all_closed None = refl
 all_closed (Some begun) =
@@ -223,22 +223,22 @@ module _ (peer : PeerLimits) where
   -- ---- one event
 
   -- what one more event does
-  record AfterOne (opened : Bool) (placed : List Placed) (heads : List HeadWithJudgement)
-      (latest : Option Begun) (event : WalkEvent) : Type 0 where
+  record AfterOne (opened : Bool) (placed : List Placed) (heads : List HeadWithOrder)
+      (latest : Option BegunTransfer) (event : WalkEvent) : Type 0 where
     pub after : List Placed
     pub are : transfers_in after ≡ after_event (transfers_in placed) event
     pub rules : rules_of after ≡ rules_of placed ++ closed_in (broken_with peer heads latest event)
     pub opens : open_after_event opened event ≡ true → IsOpenAt (latest_with latest event) after
 
   -- the rules of a head, and of the transfer that it closes
-  head_closed : (offset : ℕ) (broken : List MessageRule) (closing : Bool) (closed : Option Begun)
+  head_closed : (offset : ℕ) (broken : List MessageRule) (closing : Bool) (closed : Option BegunTransfer)
       → (let due : List RuleText = if closing then rules_at closed_rules closed else [] in
       closed_in (at_offset offset (map (λ one. rule.Message one) broken) ++ due) ≡ due)
   head_closed offset broken closing closed =
       let none = none_pass is_closed (λ one. rule.Message one) offset (λ one. refl) broken in
       grind (arith, all_closed, filter-append)
 
-  module _ (heads : List HeadWithJudgement) (latest : Option Begun) where
+  module _ (heads : List HeadWithOrder) (latest : Option BegunTransfer) where
     -- an event that changes nothing
     passes : (opened : Bool) (placed : List Placed) (event : WalkEvent)
         → after_event (transfers_in placed) event ≡ transfers_in placed
@@ -310,7 +310,7 @@ module _ (peer : PeerLimits) where
   -- ---- events
 
   event_after : (before : List WalkEvent) (event : WalkEvent) (placed : List Placed)
-      (heads : List HeadWithJudgement) (latest : Option Begun) → Follows before event
+      (heads : List HeadWithOrder) (latest : Option BegunTransfer) → Follows before event
       → (has_open before ≡ true → IsOpenAt latest placed)
       → AfterOne (has_open before) placed heads latest event
   event_after before (ContactHeader contact) placed heads latest follows at =
@@ -341,14 +341,14 @@ module _ (peer : PeerLimits) where
   event_after before event [] heads latest opened at = absurd (at opened)
 
   -- what more events do, which follow the first ones
-  pub record AfterAll (placed : List Placed) (heads : List HeadWithJudgement) (latest : Option Begun)
+  pub record AfterAll (placed : List Placed) (heads : List HeadWithOrder) (latest : Option BegunTransfer)
       (more : List WalkEvent) : Type 0 where
     pub after : List Placed
     pub are : transfers_in after ≡ after_events (transfers_in placed) more
     pub rules : rules_of after ≡ rules_of placed ++ closed_in (broken_from peer heads latest more)
 
-  pub all_after : (more before : List WalkEvent) (placed : List Placed) (heads : List HeadWithJudgement)
-      (latest : Option Begun) → AllFollow before more
+  pub all_after : (more before : List WalkEvent) (placed : List Placed) (heads : List HeadWithOrder)
+      (latest : Option BegunTransfer) → AllFollow before more
       → (has_open before ≡ true → IsOpenAt latest placed) → AfterAll placed heads latest more
   all_after [] before placed heads latest follow at = record {
     after = placed;

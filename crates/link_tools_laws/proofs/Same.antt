@@ -19,7 +19,7 @@ use Rattle.link_run_judge.specs.Transfers.{Transfer, after_message}
 use Rattle.link_run_judge.specs.Unpacking.{parts_of, unpack_tool, Told, told_after, unpack_telling, with_line, line_due, told_event}
 use Rattle.link_run_judge.proofs.Events.{told_then, told_push}
 use Rattle.link_tools_laws.specs.Transfers.{Ordered, ordered_by, ordered_after, ordered, transfers_of, settled, lines_of, abandoned_line, unpacking_by, UnpackedSoFar, with_head, unpacked_of, going_on_by, are_good, none_unpacked, made_of, by_transfers}
-use Rattle.link_tools_laws.specs.Cuts.{entries_of, going_on, stopping, IsSameIfInOrder}
+use Rattle.link_tools_laws.specs.Cuts.{entries_of, going_on, stopping, IsKeepGoingIdleIfInOrder}
 use Rattle.link_tools_laws.proofs.Whole.{AreRead, FitsData, ReadingReads, reading_read}
 use Rattle.link_tools_laws.proofs.OneHead.{lines_due, abandoned_due, settled_all, lines_are, all_good, goods_due, goods_are, KnowsWhole, added, through, heads_whole}
 use Rattle.link_tools_laws.proofs.Walks.{going, judged_taken, events_at}
@@ -425,6 +425,6 @@ module _ (wanted : Wanted) where
       ≡ told_by (unpack_telling (stopping wanted)) end walked
   made_same end walked = rw (told_same, told_same, parts_same, parts_same) refl
 
-  pub same : (bytes : List ℕ) → IsSameIfInOrder wanted bytes
+  pub same : (bytes : List ℕ) → IsKeepGoingIdleIfInOrder wanted bytes
   unfolding told_of
   same bytes none = grind (arith, made_same, reading_read, walked_same)

@@ -7,12 +7,12 @@ use Rattle.std.proofs.lemmas.{List.{take-append-drop, map-append}, List.Folds.fl
 use Rattle.std.proofs.lemmas.List.Elements.{All-nil, All-head, All-tail, All-push, filter-append, All-map}
 use Rattle.link_cbor.specs.PieceLaws.{takes_shortest}
 use Rattle.link_tool_option_types.specs.declared.limits.PeerLimits.{PeerLimits}
-use Rattle.link_wire.specs.{Bytes.AreBytes, SpelledStream.IsReading}
+use Rattle.link_wire.specs.{Bytes.AreBytes, SpelledStream.IsReadingOf}
 use Rattle.link_wire.specs.Stream.{Entry, Reading, reading_of, heads_of}
 use Rattle.link_bundle_types.specs.{Faults.lasts, declared.fault.BundleFault.BundleFault}
 use Rattle.link_bundle_types.specs.declared.info.BundleInfo.{BundleInfo}
 use Rattle.link_bundle_blocks.specs.Bundle.{verdict, state_of, is_going, bundle_goes}
-use Rattle.link_bundle_blocks.proofs.Lengths.{FaultLasts-holds, TrailingLasts-holds}
+use Rattle.link_bundle_blocks.proofs.Lengths.{FaultLasts-holds, ByteAfterBundleIsTrailing-holds}
 use Rattle.link_session_rules.specs.TransferRules.{broken_transfer_rules}
 use Rattle.link_report.specs.declared.judgement.Judgement.TheVariants.{Good}
 use Rattle.link_report_broken_rules.specs.declared.line.RuleText.{RuleText}
@@ -23,7 +23,7 @@ use Rattle.link_run_over_transfers.specs.Walk.{WalkEvent, Walked, with_next, non
 use Rattle.link_run_over_transfers.specs.declared.consumer.Manner.{Manner}
 use Rattle.link_run_judge.specs.Transfers.{Transfer}
 use Rattle.link_run_judge.specs.Unpacking.{parts_of, judgement_of, is_good, Told, told_after, unpack_tool}
-use Rattle.link_run_over_bundle_files.specs.Bundles.{Packed, bundle_limit, bundle_prefix, divided}
+use Rattle.link_run_over_bundle_files.specs.Bundles.{BundleWithInfo, bundle_limit, bundle_prefix, divided}
 use Rattle.link_run_over_bundle_files.proofs.{Dividing.{divided_none, divided_whole}, Divisions.stopped_lasts}
 use Rattle.link_run_over_bundle_files.proofs.Outcomes.{told_as}
 use Rattle.link_tool_blocks.specs.Bundles.{whole_lines, bundle_lines, bundle_blocks_telling}
@@ -31,8 +31,8 @@ use Rattle.link_tool_blocks.specs.Showing.{lines_of, order_line_of, blocks_tool}
 use Rattle.link_tool_check.specs.{BundleRules.bundle_rules, Bundles.bundle_check_telling}
 use Rattle.link_tool_check.specs.Checking.{check_tool}
 use Rattle.link_tools_laws.specs.{RoundTrip.all, Transfers.{are_good, unpacked_of}, Ranges.InputFits}
-use Rattle.link_tools_laws.specs.SameRules.{Carried, broken_in_transfer, is_of_bundle, reports, HasSameBundleRules}
-use Rattle.link_tools_laws.specs.SameLines.{shown, unpacked, lines_under, renumbered, HasSameLines}
+use Rattle.link_tools_laws.specs.SameRules.{TransferWithBundle, broken_in_transfer, is_of_bundle, reports, HasSameBundleRules}
+use Rattle.link_tools_laws.specs.SameLines.{shown, unpacked, lines_under, renumbered, HasSameBlockLinesUnpacked}
 use Rattle.link_tools_laws.proofs.Placed.{Placed, passing, all_pass, none_pass, transfers_in, due_of, rules_of, is_closed, told_transfers, AfterAll, from_start, options, broken_from, lines_said, good_kept}
 use Rattle.link_tools_laws.proofs.Cuts.{reading_size, order_size, every_byte}
 use Rattle.link_tools_laws.proofs.Walks.{closed_at_end, follow_both, reading_told, end_follows, content_none, going, walk_is}
@@ -49,7 +49,7 @@ no_more : (front rest : List ℕ) (info : BundleInfo) (said : Result BundleInfo 
     → rest ≡ []
 no_more front [] info said is stops good = refl
 no_more front (byte ∷ more) info (Ok other) is stops good =
-    absurd (let fault = TrailingLasts-holds front more byte other is in cc)
+    absurd (let fault = ByteAfterBundleIsTrailing-holds front more byte other is in cc)
 no_more front (byte ∷ more) info (Err (fault, place)) is stops good =
     let stays = stopped_lasts (lasts fault) fault place stops in
     absurd (let lasting = FaultLasts-holds front (byte ∷ more) fault place stays is in cc)
@@ -71,16 +71,16 @@ good_prefix bytes info good =
 
 -- ---- good bundles, one after another
 
-abbrev pub IsGood : Carried → Type 0
+abbrev pub IsGood : TransferWithBundle → Type 0
 IsGood carried = verdict carried.bundle.bytes ≡ Ok carried.bundle.info
 
-abbrev pub bundle_in : Carried → Packed
+abbrev pub bundle_in : TransferWithBundle → BundleWithInfo
 bundle_in carried = carried.bundle
 
-abbrev pub bytes_in : Carried → List ℕ
+abbrev pub bytes_in : TransferWithBundle → List ℕ
 bytes_in carried = carried.bundle.bytes
 
-divided_all : (limit : ℕ) (transfers : List Carried) → All IsGood transfers
+divided_all : (limit : ℕ) (transfers : List TransferWithBundle) → All IsGood transfers
     → length (flat_map bytes_in transfers) ≤ limit
     → divided limit (flat_map bytes_in transfers)
     ≡ record { bundles = map bundle_in transfers; rest = None }
@@ -95,7 +95,7 @@ divided_all limit (first ∷ more) good few =
     ∙ cc (divided_all limit more (All-tail IsGood first more good) (omega arith))
 
 -- the bundles of these transfers, one after another, are divided into these bundles
-pub divided_as : (bytes : List ℕ) (transfers : List Carried) → All IsGood transfers
+pub divided_as : (bytes : List ℕ) (transfers : List TransferWithBundle) → All IsGood transfers
     → bytes ≡ flat_map bytes_in transfers → length bytes ≤ bundle_limit
     → divided bundle_limit bytes ≡ record { bundles = map bundle_in transfers; rest = None }
 divided_as bytes transfers good is few =
@@ -115,7 +115,7 @@ good_transfer : (transfer : Transfer) → is_good (judgement_of transfer) ≡ tr
 good_transfer transfer good = grind (arith, cases_Bool)
 
 module _ (placed : Placed) (good : IsGoodTransfer placed.transfer) where
-  abbrev carried : Carried
+  abbrev carried : TransferWithBundle
   carried = record {
     offset = placed.offset;
     id = placed.transfer.first.id;
@@ -138,12 +138,12 @@ module _ (placed : Placed) (good : IsGoodTransfer placed.transfer) where
             (λ one. refl) (bundle_rules placed.transfer.content good.info),
       ) refl
 
-abbrev pub lines_in : Carried → List ℕ
+abbrev pub lines_in : TransferWithBundle → List ℕ
 lines_in carried = whole_lines carried.id carried.bundle
 
 -- these transfers carry these bundles; the latest transfer comes first in its list
 pub record CarryAll (placed : List Placed) : Type 0 where
-  pub transfers : List Carried
+  pub transfers : List TransferWithBundle
   pub good : All IsGood transfers
   pub parts : parts_of all (transfers_in placed) ≡ flat_map bytes_in transfers
   pub lines : lines_of None false (transfers_in placed) ≡ flat_map lines_in transfers
@@ -203,10 +203,10 @@ heads_none (head ∷ more) was none =
 
 -- ---- bundles under their numbers
 
-abbrev numbered : Carried → ℕ × Packed
+abbrev numbered : TransferWithBundle → ℕ × BundleWithInfo
 numbered carried = (carried.id, carried.bundle)
 
-lines_renumbered : (from : ℕ) (transfers : List Carried)
+lines_renumbered : (from : ℕ) (transfers : List TransferWithBundle)
     → bundle_lines from (map bundle_in transfers)
     ≡ lines_under (renumbered from (map numbered transfers))
 unfolding bundle_lines renumbered
@@ -286,11 +286,11 @@ module _ (bytes : List ℕ) where
     shows =
         cc (is.stop, is.told_good, texts_as said no_report)
 
-    pub fits : IsReading bytes reading → InputFits bytes → length (unpacked bytes) ≤ bundle_limit
+    pub fits : IsReadingOf bytes reading → InputFits bytes → length (unpacked bytes) ≤ bundle_limit
     fits spelled input = grind (arith, append-nil, clean_end, every_byte, order_size, reading_size)
 
-  pub same_lines : ((bytes : List ℕ) → AreBytes bytes → IsReading bytes (reading_of bytes))
-      → InputFits bytes → ((unpack_tool all).whole bytes).status ≡ 0 → HasSameLines bytes
+  pub same_lines : ((bytes : List ℕ) → AreBytes bytes → IsReadingOf bytes (reading_of bytes))
+      → InputFits bytes → ((unpack_tool all).whole bytes).status ≡ 0 → HasSameBlockLinesUnpacked bytes
   same_lines spelled input is =
       let so = clean is in
       let same = all_placed transfers in
@@ -299,16 +299,16 @@ module _ (bytes : List ℕ) where
       record {
         bundles = map numbered carried.transfers;
         good =
-            All-map (λ (n : ℕ × Packed). verdict n.1.bytes ≡ Ok n.1.info) numbered carried.transfers
+            All-map (λ (n : ℕ × BundleWithInfo). verdict n.1.bytes ≡ Ok n.1.info) numbered carried.transfers
             carried.good;
         unpacks =
-            joins ∙ sym (flat_map-map (λ (n : ℕ × Packed). n.1.bytes) numbered carried.transfers);
+            joins ∙ sym (flat_map-map (λ (n : ℕ × BundleWithInfo). n.1.bytes) numbered carried.transfers);
         recorded =
             cc (
               shows so,
               carried.lines,
               same,
-              flat_map-map (λ (n : ℕ × Packed). whole_lines n.0 n.1) numbered carried.transfers,
+              flat_map-map (λ (n : ℕ × BundleWithInfo). whole_lines n.0 n.1) numbered carried.transfers,
             );
         joined =
             ap (λ (made : Made). whole_by made.stop made)
@@ -371,7 +371,7 @@ module _ (peer : PeerLimits) where
         unpacks bytes clean ∙ ap (parts_of all) (sym same_transfers) ∙ carries.parts
 
   pub same_rules : (bytes : List ℕ)
-      → ((bytes : List ℕ) → AreBytes bytes → IsReading bytes (reading_of bytes))
+      → ((bytes : List ℕ) → AreBytes bytes → IsReadingOf bytes (reading_of bytes))
       → InputFits bytes → ((unpack_tool all).whole bytes).status ≡ 0 → HasSameBundleRules peer bytes
   same_rules bytes spelled input is =
       let so = clean bytes is in

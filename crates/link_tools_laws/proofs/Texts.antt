@@ -14,14 +14,14 @@ use Rattle.link_report.specs.Message.{message_text}
 use Rattle.link_run.specs.{Run.Texts, Writers.on_output}
 use Rattle.link_run.proofs.Continued.{StreamGoesOn, stream_of, ReadingGoesOn, reading_on}
 use Rattle.link_run_over_transfers.specs.Walk.{WalkEvent, ContactHeader, MessageHead, Data, Whole, LeftOpen, open_after_event, has_open}
-use Rattle.link_run_over_transfers.specs.Saying.{Keeping, said_from}
+use Rattle.link_run_over_transfers.specs.Saying.{StatefulTool, said_from}
 use Rattle.link_run_over_transfers.proofs.Heads.{has_open-append}
 use Rattle.link_run_judge.specs.{TransferJudge.grown, Transfers.{Transfer, continued, after_message}}
 use Rattle.link_run_judge.specs.Unpacking.{is_selected, parts_of, Told, transfers_at, told_event, told_after, unpack_telling, unpack_tool}
 use Rattle.link_run_judge.proofs.{Events.told_push, Texts.parts_more, Effects.comes_does}
 use Rattle.link_run_judge.proofs.Heads.{kind_of, transfers_same, transfer_begins, transfer_continues}
 use Rattle.link_tool_list.specs.Listing.{contact_lines, message_lines, listed_lines, listing_of, listing_by, list_tool}
-use Rattle.link_run_over_bundle_files.specs.Bundles.{Packed}
+use Rattle.link_run_over_bundle_files.specs.Bundles.{BundleWithInfo}
 use Rattle.link_tool_blocks.specs.{BlockLines.block_lines, Lister.end_due, LineLaws.lines_grow}
 use Rattle.link_tool_blocks.specs.Bundles.{whole_lines, bundle_lines, bundle_blocks_telling, bundle_blocks_tool}
 use Rattle.link_tool_blocks.specs.Showing.{transfer_lines, lines_of, order_line_of, unpacking_by, blocks_telling, blocks_tool}
@@ -229,7 +229,7 @@ module _ (options : BlockOptions) where
 -- ---- bundles
 
 -- the lines of bundles, when there is one more bundle, whose lines begin with these
-pushed_front : (number n : ℕ) (bundles : List Packed) (bundle : Packed) (lines : List ℕ)
+pushed_front : (number n : ℕ) (bundles : List BundleWithInfo) (bundle : BundleWithInfo) (lines : List ℕ)
     → n ≡ number + length bundles → IsPrefixOf lines (whole_lines n bundle)
     → IsPrefixOf (bundle_lines number bundles ++ lines) (bundle_lines number (bundles ++ bundle ∷ []))
 unfolding bundle_lines
@@ -255,7 +255,7 @@ bundles_grow = record {
     report = front_same _ _ refl;
   };
   whole = λ before run info some.
-      let bundle : Packed = record { bytes = before.begun ++ run; info = info } in
+      let bundle : BundleWithInfo = record { bytes = before.begun ++ run; info = info } in
       record {
         output = rw (between_lines (before.bundles ++ bundle ∷ []))
             (pushed_front 0 (length before.bundles) before.bundles bundle _ (omega arith)
@@ -270,7 +270,7 @@ bundle_blocks_prefix bytes more = bundles_prefix bundle_blocks_telling bundles_g
 
 -- ---- transfers
 
-module _ {S : Type 0} (keeping : Keeping S) where
+module _ {S : Type 0} (keeping : StatefulTool S) where
   -- what is said of some events begins what is said of them and more
   keeps_front : (kept : S) (before more : List WalkEvent)
       → AreFronts (said_from keeping kept before) (said_from keeping kept (before ++ more))
@@ -284,7 +284,7 @@ check_prefix options bytes more = search (keeps_front, told_prefix)
 
 -- ---- bundles
 
-broken_front : (number offset : ℕ) (bundles more : List Packed)
+broken_front : (number offset : ℕ) (bundles more : List BundleWithInfo)
     → IsFront (broken_bundles number offset bundles) (broken_bundles number offset (bundles ++ more))
 unfolding broken_bundles
 broken_front number offset [] more = front_none _

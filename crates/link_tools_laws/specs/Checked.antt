@@ -22,26 +22,27 @@ IsGoodOrUnsupported content (LengthDiffers announced) = ⊥
 IsGoodOrUnsupported content (Bad fault offset) = may_be_bundle (unread_of content) fault offset ≡ true
 IsGoodOrUnsupported content (Good info) = Unit {0}
 
--- the report may have this transfer
+-- `IsGoodOrUnsupported` for the data and the judgement of this transfer
 abbrev pub HasGoodOrUnsupportedBundle : Transfer → Type 0
 HasGoodOrUnsupportedBundle transfer = IsGoodOrUnsupported transfer.content (judgement_of transfer)
 
 -- the fault of a head is that it is a second SESS_INIT
-abbrev pub IsSecondInit : ℕ × OrderFault → Type 0
-IsSecondInit fault = fault.1 ≡ SecondSessInit
+abbrev pub IsSecondInitFault : ℕ × OrderFault → Type 0
+IsSecondInitFault fault = fault.1 ≡ SecondSessInit
 
 -- the stream stops at no fault, or at a second SESS_INIT
-abbrev pub IsAllowedStop : Option StreamStop → Type 0
-IsAllowedStop None = Unit {0}
-IsAllowedStop (Some stop) = (offset : ℕ) × (stop.fault ≡ Order offset SecondSessInit)
+abbrev pub IsSecondInitOrNoStop : Option StreamStop → Type 0
+IsSecondInitOrNoStop None = Unit {0}
+IsSecondInitOrNoStop (Some stop) = (offset : ℕ) × (stop.fault ≡ Order offset SecondSessInit)
 
 -- The only faults in the reports of `unpack` are abandoned transfers, data that may be bundles, and
--- a second SESS_INIT. `DividesOutput` and `DividesOutputGoingOn` say what the reports are.
-pub record HasOnlyAllowed (bytes : List ℕ) : Type 0 where
-  -- where a fault of the order ends the run
-  pub stop : IsAllowedStop (stream_stop bytes)
+-- a second SESS_INIT. `ReportDividesOutput` and `ReportDividesOutputKeepGoing` say what the reports
+-- are.
+pub record HasOnlyAllowedFaults (bytes : List ℕ) : Type 0 where
+  -- without `--keep-going`
+  pub stop : IsSecondInitOrNoStop (stream_stop bytes)
   pub transfers : All HasGoodOrUnsupportedBundle (reported bytes)
-  -- where a fault of the order does not end the run
+  -- with `--keep-going`
   pub unstopped : stop_of (reading_of bytes).end ≡ None
-  pub faults : All IsSecondInit (faults_after [] (heads_of (reading_of bytes)))
+  pub faults : All IsSecondInitFault (faults_after [] (heads_of (reading_of bytes)))
   pub transfers_on : (wanted : Wanted) → All HasGoodOrUnsupportedBundle (reported_on wanted bytes)

@@ -1,5 +1,5 @@
--- How the data of the stream makes up the output of `unpack`, and how the report cuts the output:
--- where a fault of the order ends the run, and where it does not.
+-- How the data of the stream makes up the output of `unpack`, and how the report cuts the output,
+-- without `--keep-going` and with it.
 use Rattle.std.specs.Prelude.{◌≡◌, ℕ, ◌+◌, ◌≤◌, Bool, true, false, List, [], ◌∷◌, ◌++◌, length, Option, Some, None}
 use Rattle.std.specs.List.{flat_map}
 use Rattle.link_tool_option_types.specs.declared.wanted.Wanted.{Wanted}
@@ -19,12 +19,12 @@ use Rattle.link_tools_laws.specs.Transfers.{Ordered, ordered, transfers_of, sett
 use Rattle.link_run_judge.specs.Unpacking.{parts_of, entry_of, unpacking_of, unpack_tool}
 use Rattle.link_tools_laws.specs.RoundTrip.{all}
 
--- the same options, with which a fault of the order does not end the run
+-- the same options, with `--keep-going`
 abbrev pub going_on : Wanted → Wanted
 going_on wanted =
     record { only = wanted.only; payload = wanted.payload; keep_going = true }
 
--- the same options, with which a fault of the order ends the run
+-- the same options, without `--keep-going`
 abbrev pub stopping : Wanted → Wanted
 stopping wanted =
     record { only = wanted.only; payload = wanted.payload; keep_going = false }
@@ -35,14 +35,13 @@ stopping wanted =
 abbrev pub data_of : Entry → List ℕ
 data_of head = head.content
 
--- the heads of a stream that are in order, and the first that is refused, if there is one
+-- the heads of a stream before the first that is not in order, and that one, if there is one
 abbrev pub order_of : List ℕ → Ordered
 order_of bytes = ordered (heads_of (reading_of bytes))
 
--- for all transfers, and without `--payload`, the output is the data of the accepted segments, in
--- order
-abbrev pub HasEveryByte : List ℕ → Type 0
-HasEveryByte bytes =
+-- the output of `unpack` without options is the data of the accepted segments, in order
+abbrev pub UnpacksToAllData : List ℕ → Type 0
+UnpacksToAllData bytes =
     ((unpack_tool all).whole bytes).texts.output ≡ flat_map data_of (order_of bytes).heads
 
 -- a head and the rest, or the rest alone if the head is stray
@@ -57,10 +56,10 @@ taken_after before (head ∷ more) =
     prepended_unless (is_stray before (event_of head.message)) head
     (taken_after (with_taken before head.message) more)
 
--- as `HasEveryByte`, where a fault of the order does not end the run: the output is the data of the
--- segments that are not stray, in order
-abbrev pub HasEveryTakenByte : List ℕ → Type 0
-HasEveryTakenByte bytes =
+-- the output of `unpack` with `--keep-going` is the data of the segments that are not stray, in
+-- order
+abbrev pub UnpacksToNonStrayData : List ℕ → Type 0
+UnpacksToNonStrayData bytes =
     ((unpack_tool (going_on all)).whole bytes).texts.output
     ≡ flat_map data_of (taken_after [] (heads_of (reading_of bytes)))
 
@@ -74,17 +73,18 @@ entries_of wanted (latest ∷ earlier) =
     entries_of wanted earlier ++ entry_of wanted latest (length (parts_of wanted earlier)) ∷ []
 
 -- in the output, the first entry begins at `start`, and each other one where the one before it ends
-unfoldable pub AreConsecutive : (start : ℕ) → List TransferEntry → Type 0
-AreConsecutive start [] = Unit {0}
-AreConsecutive start (entry ∷ more) = (entry.start ≡ start)
-    × AreConsecutive (start + entry.written) more
+unfoldable pub AreOutputPartsEndToEnd : (start : ℕ) → List TransferEntry → Type 0
+AreOutputPartsEndToEnd start [] = Unit {0}
+AreOutputPartsEndToEnd start (entry ∷ more) = (entry.start ≡ start)
+    × AreOutputPartsEndToEnd (start + entry.written) more
 
 -- the number of bytes in the output that the lines of these entries describe
 unfoldable pub total_written : List TransferEntry → ℕ
 total_written [] = 0
 total_written (entry ∷ more) = entry.written + total_written more
 
--- where the stream stops: at the head that is refused, and else where its reading does
+-- where the stream stops without `--keep-going`: at the head that is refused, or else where its
+-- reading stops
 abbrev pub stream_stop : List ℕ → Option StreamStop
 stream_stop bytes = stop_by (order_of bytes).refused (reading_of bytes).end
 
@@ -94,7 +94,7 @@ abbrev pub lined : Option StreamStop → List Transfer → List Transfer
 lined None transfers = transfers
 lined (Some stop) transfers = settled transfers
 
--- the transfers that have a line in the report, the latest first
+-- the transfers that have a line in the report without `--keep-going`, the latest first
 abbrev pub reported : List ℕ → List Transfer
 reported bytes = lined (stream_stop bytes) (transfers_of (order_of bytes).heads)
 
@@ -103,23 +103,25 @@ abbrev pub stop_line : Option StreamStop → List ℕ
 stop_line None = []
 stop_line (Some stop) = fault_text stop.fault
 
--- The parts of the output that the lines of these transfers describe follow one another from its
--- beginning. The rest of the output is the part of the transfer that has no line.
-pub record Divides (wanted : Wanted) (output : List ℕ) (transfers : List Transfer) : Type 0 where
-  pub follow : AreConsecutive 0 (entries_of wanted transfers)
+-- Each of these transfers has a line, which describes a part of the output. These parts follow one
+-- another from the beginning of the output. The rest is the part of a transfer that has no line.
+pub record LinesDivideOutput (wanted : Wanted) (output : List ℕ) (transfers : List Transfer)
+    : Type 0 where
+  pub follow : AreOutputPartsEndToEnd 0 (entries_of wanted transfers)
   -- the transfer that has no line, if there is one: it is the latest, and the last in the output
   pub left : List Transfer
   pub one : length left ≤ 1
   pub whole : output ≡ parts_of wanted (left ++ transfers)
   pub size : length (parts_of wanted transfers) ≡ total_written (entries_of wanted transfers)
 
--- The report is the lines of the transfers that have one, and then the line of the fault. The lines
--- divide the output into the parts of their transfers.
-pub record DividesOutput (wanted : Wanted) (bytes : List ℕ) : Type 0 where
+-- The report without `--keep-going` is the lines of the transfers that have one, and then the line
+-- of the fault, if there is one. The lines divide the output into the parts of their transfers.
+pub record ReportDividesOutput (wanted : Wanted) (bytes : List ℕ) : Type 0 where
   pub lines : ((unpack_tool wanted).whole bytes).texts.report
       ≡ flat_map transfer_text (entries_of wanted (reported bytes))
       ++ stop_line (stream_stop bytes)
-  pub divides : Divides wanted ((unpack_tool wanted).whole bytes).texts.output (reported bytes)
+  pub divides : LinesDivideOutput wanted ((unpack_tool wanted).whole bytes).texts.output
+      (reported bytes)
 
 -- ---- a report with the lines of heads that are not in order
 
@@ -155,28 +157,28 @@ faults_after before (head ∷ more) =
     fault_at head.offset (refusal before (event_of head.message))
     ++ faults_after (with_taken before head.message) more
 
--- the transfers that have a line in the report, the latest first, if a fault of the order does not
--- end the run
+-- the transfers that have a line in the report with `--keep-going`, the latest first
 abbrev pub reported_on : Wanted → List ℕ → List Transfer
 reported_on wanted bytes =
     let reading = reading_of bytes in
     lined (stop_of reading.end) (unpacked_of wanted (heads_of reading)).transfers
 
--- As `DividesOutput`, where a fault of the order does not end the run. The report has a line for
--- each head that is not in order. Its lines of transfers divide the output.
-pub record DividesOutputGoingOn (wanted : Wanted) (bytes : List ℕ) : Type 0 where
+-- The report with `--keep-going` is the lines of the heads that are not in order and of the
+-- transfers that have one, and then the line of the fault at which the reading stops. The lines of
+-- the transfers divide the output.
+pub record ReportDividesOutputKeepGoing (wanted : Wanted) (bytes : List ℕ) : Type 0 where
   pub lines : List ReportLine
   pub report : ((unpack_tool wanted).whole bytes).texts.report
       ≡ flat_map line_text lines ++ stop_line (stop_of (reading_of bytes).end)
   pub faults : flat_map fault_in lines ≡ faults_after [] (heads_of (reading_of bytes))
   pub entries : flat_map entry_in lines ≡ entries_of wanted (reported_on wanted bytes)
-  pub divides : Divides wanted ((unpack_tool wanted).whole bytes).texts.output
+  pub divides : LinesDivideOutput wanted ((unpack_tool wanted).whole bytes).texts.output
       (reported_on wanted bytes)
 
 -- ---- heads that are all in order
 
 -- if no head is refused, `keep_going` changes nothing of what `unpack` makes of the stream
-abbrev pub IsSameIfInOrder : Wanted → List ℕ → Type 0
-IsSameIfInOrder wanted bytes =
+abbrev pub IsKeepGoingIdleIfInOrder : Wanted → List ℕ → Type 0
+IsKeepGoingIdleIfInOrder wanted bytes =
     (order_of bytes).refused ≡ None
     → unpacking_of (going_on wanted) bytes ≡ unpacking_of (stopping wanted) bytes

@@ -8,10 +8,10 @@ use Rattle.link_bundle_blocks.specs.Bundle.{verdict}
 use Rattle.link_session_rules.specs.NodeIds.{node_id, node_name}
 use Rattle.link_session_rules.specs.Session.{keepalive_interval}
 use Rattle.link_tool_check.specs.Checking.{check_tool}
-use Rattle.link_tools_laws.specs.SameRules.{Carried, broken_in_transfer, reports}
+use Rattle.link_tools_laws.specs.SameRules.{TransferWithBundle, broken_in_transfer, reports}
 
 -- the limits that are known are at least those for which the stream was packed
-pub record AllowsLimits (options : PackOptions) (peer : PeerLimits) : Type 0 where
+pub record IsWithinPeerLimits (options : PackOptions) (peer : PeerLimits) : Type 0 where
   pub segment : IfSome peer.segment (λ limit. options.peer_segment ≤ limit)
   pub transfer : IfSome peer.transfer (λ limit. options.peer_transfer ≤ limit)
 
@@ -23,18 +23,19 @@ pub record AreInitRulesKept (init : Message) : Type 0 where
 
 -- the SESS_INIT that `pack` writes with these options keeps the rules `node-id`, `node-name` and
 -- `keepalive-interval`
-abbrev pub KeepsInitRules : PackOptions → Type 0
-KeepsInitRules options =
+abbrev pub OptionsKeepInitRules : PackOptions → Type 0
+OptionsKeepInitRules options =
     AreInitRulesKept (sess_init_with options.keepalive options.segment_mru options.transfer_mru
     options.node.items)
 
 -- The transfers of the stream carry the bundles of the input, one after another. `check` writes the
 -- lines of the rules that these bundles break, and no others.
-pub record BreaksNoMore (peer : PeerLimits) (bytes stream : List ℕ) : Type 0 where
-  pub transfers : List Carried
-  pub good : All (λ (carried : Carried). verdict carried.bundle.bytes ≡ Ok carried.bundle.info)
+pub record BreaksNoMoreThanItsBundles (peer : PeerLimits) (bytes stream : List ℕ) : Type 0 where
+  pub transfers : List TransferWithBundle
+  pub good : All (λ (carried : TransferWithBundle).
+      verdict carried.bundle.bytes ≡ Ok carried.bundle.info)
       transfers
-  pub carries : flat_map (λ (carried : Carried). carried.bundle.bytes) transfers ≡ bytes
+  pub carries : flat_map (λ (carried : TransferWithBundle). carried.bundle.bytes) transfers ≡ bytes
   pub checked : (must : Bool)
       → (check_tool (record { must = must; peer = peer })).whole stream
       ≡ reports must (flat_map broken_in_transfer transfers)

@@ -17,7 +17,7 @@ SegmentFits options (Segment head) =
 SegmentFits options message = Unit {0}
 
 -- A transfer has no more data than the peer takes. If a length is announced (section 5.2.5.1), the
--- transfer is closed, and the length is that of its data.
+-- transfer is closed, and the length is the number of bytes of its data.
 abbrev pub TransferFits : PackOptions → Transfer → Type 0
 TransferFits options transfer =
     (length transfer.content ≤ options.peer_transfer)

@@ -5,7 +5,7 @@ use Rattle.link_tool_option_types.specs.declared.pack.PackOptions.{PackOptions}
 use Rattle.link_report.specs.Transfer.{transfer_text}
 use Rattle.link_report.specs.declared.judgement.Judgement.TheVariants.{Good}
 use Rattle.link_run_judge.specs.Unpacking.{unpack_tool}
-use Rattle.link_run_over_bundle_files.specs.Bundles.{Packed, divided}
+use Rattle.link_run_over_bundle_files.specs.Bundles.{BundleWithInfo, divided}
 
 -- `unpack` without options: all data of all transfers
 abbrev pub all : Wanted
@@ -13,7 +13,7 @@ all = record { only = None; payload = false; keep_going = false }
 
 -- A line for each bundle: its number, its offset in the output, and the judgement that it is good.
 -- The first bundle has this number, and begins at `start`.
-unfoldable pub good_lines : (number start : ℕ) → List Packed → List ℕ
+unfoldable pub good_lines : (number start : ℕ) → List BundleWithInfo → List ℕ
 good_lines number start [] = []
 good_lines number start (bundle ∷ more) =
     transfer_text (record {

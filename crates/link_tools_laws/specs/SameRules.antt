@@ -6,7 +6,7 @@ use Rattle.link_tool_option_types.specs.declared.limits.PeerLimits.{PeerLimits}
 use Rattle.link_bundle_blocks.specs.Bundle.{verdict}
 use Rattle.link_run.specs.Run.{Outcome}
 use Rattle.link_run.specs.Writers.{on_output}
-use Rattle.link_run_over_bundle_files.specs.Bundles.{Packed}
+use Rattle.link_run_over_bundle_files.specs.Bundles.{BundleWithInfo}
 use Rattle.link_report_broken_rules.specs.declared.{line.RuleText.RuleText, rule.BrokenRule.BrokenRule}
 use Rattle.link_report_broken_rules.specs.declared.rule.BrokenRule.TheVariants.{Message, Transfer, Bundle}
 use Rattle.link_report_broken_rules.specs.declared.rule.BundlePlace.TheVariants as place
@@ -17,13 +17,14 @@ use Rattle.link_tool_check.specs.Lines.{lines_of, none_counts, at_offset}
 use Rattle.link_tools_laws.specs.SameLines.{unpacked}
 
 -- a transfer that carries a bundle: the offset of its first segment, its ID, and the bundle
-pub record Carried : Type 0 where
+pub record TransferWithBundle : Type 0 where
   pub offset : ℕ
   pub id : ℕ
-  pub bundle : Packed
+  pub bundle : BundleWithInfo
 
--- the rules of bundles that its bundle breaks, as `check` reports them
-abbrev pub broken_in_transfer : Carried → List RuleText
+-- The rules that the bundle of a transfer breaks, as `check` reports them. Each is reported at the
+-- offset of the transfer's first segment, with the transfer's ID.
+abbrev pub broken_in_transfer : TransferWithBundle → List RuleText
 broken_in_transfer carried =
     at_offset carried.offset
     (map (λ rule. Bundle (place.Transfer carried.id) rule)
@@ -43,16 +44,17 @@ reports must broken = record {
   status = if none_counts must broken then 0 else 1;
 }
 
--- `check` finds the same rules of bundles broken in a recording and in the bundles that `unpack`
--- writes of it. Each transfer of the recording carries a good bundle. `check` writes the lines of
--- all rules that the recording breaks. A rule of a bundle has a line with the offset and the ID of
--- the bundle's transfer. `check --bundles` reads what `unpack` writes. Its lines are those of the
--- same rules, with the offset and the number of the bundle.
+-- Each transfer of the recording carries a good bundle. `check` writes the lines of all rules that
+-- the recording breaks. The line of a rule of a bundle shows the offset and the ID of the bundle's
+-- transfer. `check --bundles` reads what `unpack` writes of the recording. It writes the lines of
+-- the same rules of bundles, with the offset and the number of the bundle.
 pub record HasSameBundleRules (peer : PeerLimits) (bytes : List ℕ) : Type 0 where
-  pub transfers : List Carried
-  pub good : All (λ (carried : Carried). verdict carried.bundle.bytes ≡ Ok carried.bundle.info)
+  pub transfers : List TransferWithBundle
+  pub good : All (λ (carried : TransferWithBundle).
+      verdict carried.bundle.bytes ≡ Ok carried.bundle.info)
       transfers
-  pub unpacks : unpacked bytes ≡ flat_map (λ (carried : Carried). carried.bundle.bytes) transfers
+  pub unpacks : unpacked bytes
+      ≡ flat_map (λ (carried : TransferWithBundle). carried.bundle.bytes) transfers
   -- the rules of messages, transfers and bundles that the recording breaks
   pub broken : List RuleText
   pub recorded : (must : Bool)
@@ -61,4 +63,5 @@ pub record HasSameBundleRules (peer : PeerLimits) (bytes : List ℕ) : Type 0 wh
       ≡ flat_map broken_in_transfer transfers
   pub joined : (must : Bool)
       → (bundle_check_tool must).whole (unpacked bytes)
-      ≡ reports must (broken_bundles 0 0 (map (λ (carried : Carried). carried.bundle) transfers))
+      ≡ reports must (broken_bundles 0 0
+      (map (λ (carried : TransferWithBundle). carried.bundle) transfers))

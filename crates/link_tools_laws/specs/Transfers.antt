@@ -15,25 +15,27 @@ use Rattle.link_run_judge.specs.Unpacking.{parts_of, judgement_of, line_of, is_g
 
 -- ---- order
 
--- the heads that are in order, and the offset and the fault of the first that is not
+-- The heads before the first that is not in order, and the offset and the fault of that one. If all
+-- are in order, `heads` contains all.
 pub record Ordered : Type 0 where
   pub heads : List Entry
   pub refused : Option (ℕ × OrderFault)
 
--- at the first head that is not in order, the heads after it are dropped
+-- One more head, before the heads `rest`. If it is not in order, it is dropped with all heads after
+-- it, and only its offset and its fault are kept.
 abbrev pub ordered_by : Option OrderFault → Entry → Ordered → Ordered
 ordered_by (Some fault) head rest = record { heads = []; refused = Some (head.offset, fault) }
 ordered_by None head rest = record { heads = head ∷ rest.heads; refused = rest.refused }
 
--- The order of heads that come after the messages `before`. All messages before a head decide
--- whether the head is in order.
+-- The heads before the first that is not in order, and that one. The messages `before` come before
+-- them. All messages before a head decide whether the head is in order.
 unfoldable pub ordered_after : List Message → List Entry → Ordered
 ordered_after before [] = record { heads = []; refused = None }
 ordered_after before (head ∷ more) =
     ordered_by (refusal before (event_of head.message)) head
     (ordered_after (before ++ head.message ∷ []) more)
 
--- the order of the heads of a whole stream
+-- the heads of a whole stream before the first that is not in order, and that one
 unfoldable pub ordered : List Entry → Ordered
 ordered heads = ordered_after [] heads
 
@@ -49,7 +51,8 @@ abbrev pub settled : List Transfer → List Transfer
 settled [] = []
 settled (latest ∷ earlier) = if latest.closed then latest ∷ earlier else earlier
 
--- a line for each transfer; the list begins with the latest, and the lines end with it
+-- A line for each transfer. The list begins with the latest transfer, and the text ends with its
+-- line.
 unfoldable pub lines_of : Wanted → List Transfer → List ℕ
 lines_of wanted [] = []
 lines_of wanted (latest ∷ earlier) = lines_of wanted earlier ++ line_of wanted latest earlier
@@ -60,10 +63,10 @@ are_good transfers = list_all (λ transfer. is_good (judgement_of transfer)) tra
 
 -- ---- a stream that stops at a fault of the order
 
--- What `unpack` makes of heads if a fault of the order ends the run. The stream stops at the first
--- head that is not in order, or else where its reading stops. An open transfer has no line, since
--- it may go on. If the stream ends between two messages, the open transfer is abandoned, and has
--- its line.
+-- What `unpack` makes of heads without `--keep-going`. The stream stops at the first head that is
+-- not in order, or else where its reading stops. In `texts`, an open transfer has no line, since it
+-- may go on. If the stream ends between two messages, the open transfer is abandoned, and `ended`
+-- has its line.
 abbrev pub unpacking_by : Wanted → End → Ordered → Made
 unpacking_by wanted end order =
     let transfers = transfers_of order.heads in
@@ -106,7 +109,7 @@ closed_line wanted [] = []
 closed_line wanted (latest ∷ earlier) =
     if latest.closed then line_of wanted latest earlier else []
 
--- a stray segment changes no transfer; any other head does what it does in order
+-- A stray segment changes no transfer. Any other head changes the transfers as if it were in order.
 abbrev pub transfers_with : (stray : Bool) → List Transfer → Entry → List Transfer
 transfers_with true transfers head = transfers
 transfers_with false transfers head = after_message transfers head.message head.content
@@ -119,7 +122,8 @@ transfer_lines false wanted event before after =
     (if begins event then abandoned_line wanted before else [])
     ++ (if is_segment event then closed_line wanted after else [])
 
--- one more head: first the line of its fault, then the lines of transfers
+-- What `unpack` makes of one more head. The report gets the line of the head's fault, if there is
+-- one, and then the lines of the transfers that the head abandons or closes.
 abbrev pub with_head : Wanted → UnpackedSoFar → Entry → UnpackedSoFar
 with_head wanted before head =
     let event = event_of head.message in
@@ -135,12 +139,13 @@ with_head wanted before head =
       in_order = before.in_order && not (is_some fault);
     }
 
--- what `unpack` makes of these heads, if a fault of the order does not end the run
+-- what `unpack` makes of these heads with `--keep-going`
 unfoldable pub unpacked_of : Wanted → List Entry → UnpackedSoFar
 unpacked_of wanted heads = fold (with_head wanted) none_unpacked heads
 
--- What `unpack` makes of a stream if a fault of the order does not end the run. It stops only where
--- the reading ends with a fault. At a clean end, the open transfer is abandoned.
+-- What `unpack` makes of heads with `--keep-going`. The stream stops only where its reading stops.
+-- In `texts`, an open transfer has no line, since it may go on. If the stream ends between two
+-- messages, the open transfer is abandoned, and `ended` has its line.
 abbrev pub going_on_by : Wanted → End → UnpackedSoFar → Made
 going_on_by wanted end unpacked = record {
   texts = record { output = parts_of wanted unpacked.transfers; report = unpacked.report };

@@ -11,8 +11,9 @@ AreLines text = (text ≡ []) ⊎ ((before : List ℕ) × (text ≡ before ++ ne
 
 -- In each input that begins with the bytes, the text that `text_of` selects begins with `common`.
 -- Any number of bytes may follow, also none.
-abbrev pub IsShared : (text_of : Texts → List ℕ) → Tool → (bytes common : List ℕ) → Type 0
-IsShared text_of tool bytes common =
+abbrev pub IsPrefixWhateverFollows : (text_of : Texts → List ℕ) → Tool → (bytes common : List ℕ)
+    → Type 0
+IsPrefixWhateverFollows text_of tool bytes common =
     (more : List ℕ) → AreBytes more
     → IsPrefixOf common (text_of (tool.whole (bytes ++ more)).texts)
 
@@ -25,10 +26,11 @@ report_of texts = texts.report
 -- `so_far` has each byte of output, and each whole line of the report, that is shared by all inputs
 -- that begin with the bytes. A part of a line does not count: if the input begins with the byte 0,
 -- the report begins with `tcpclkit: byte 0: `, and the rest of the line depends on what follows.
-pub record WithholdsNothing (tool : Tool) (bytes : List ℕ) : Type 0 where
-  pub output : (common : List ℕ) → IsShared output_of tool bytes common
+pub record HasLongestSoFar (tool : Tool) (bytes : List ℕ) : Type 0 where
+  pub output : (common : List ℕ) → IsPrefixWhateverFollows output_of tool bytes common
       → IsPrefixOf common (tool.so_far bytes).output
-  pub report : (common : List ℕ) → AreLines common → IsShared report_of tool bytes common
+  pub report : (common : List ℕ) → AreLines common
+      → IsPrefixWhateverFollows report_of tool bytes common
       → IsPrefixOf common (tool.so_far bytes).report
 
 -- `less` makes the same of whole inputs as `tool`, but says less after these bytes: bytes of output

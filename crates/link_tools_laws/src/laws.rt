@@ -18,15 +18,15 @@ ghost use Rattle.link_tool_blocks.specs.Showing.{blocks_tool};
 ghost use Rattle.link_tool_check.specs.Bundles.{bundle_check_tool};
 ghost use Rattle.link_tool_check.specs.Checking.{check_tool};
 ghost use Rattle.link_tool_pack.specs.Packing.{pack_tool};
-ghost use Rattle.link_tools_laws.specs.Checked.{HasOnlyAllowed};
-ghost use Rattle.link_tools_laws.specs.Cuts.{going_on, stopping, HasEveryByte, HasEveryTakenByte, DividesOutput, DividesOutputGoingOn, IsSameIfInOrder};
+ghost use Rattle.link_tools_laws.specs.Checked.{HasOnlyAllowedFaults};
+ghost use Rattle.link_tools_laws.specs.Cuts.{going_on, stopping, UnpacksToAllData, UnpacksToNonStrayData, ReportDividesOutput, ReportDividesOutputKeepGoing, IsKeepGoingIdleIfInOrder};
 ghost use Rattle.link_tools_laws.specs.Listed.{ListsAsPacked};
-ghost use Rattle.link_tools_laws.specs.PackedRules.{AllowsLimits, KeepsInitRules, BreaksNoMore};
+ghost use Rattle.link_tools_laws.specs.PackedRules.{IsWithinPeerLimits, OptionsKeepInitRules, BreaksNoMoreThanItsBundles};
 ghost use Rattle.link_tools_laws.specs.PackedStream.{IsStreamForPeer};
 ghost use Rattle.link_tools_laws.specs.Prefix.{HasPrefixTexts};
 ghost use Rattle.link_tools_laws.specs.Ranges.{OptionsFit, InputFits};
 ghost use Rattle.link_tools_laws.specs.RoundTrip.{all, UnpacksToBundles};
-ghost use Rattle.link_tools_laws.specs.SameLines.{HasSameLines};
+ghost use Rattle.link_tools_laws.specs.SameLines.{HasSameBlockLinesUnpacked};
 ghost use Rattle.link_tools_laws.specs.SameRules.{HasSameBundleRules};
 ghost use Rattle.link_tools_laws.specs.Transfers.{by_transfers};
 
@@ -58,7 +58,7 @@ pub fn sofar_is_prefix()
 /// - The stream is read without a fault, and its messages are in order.
 /// - Each segment has some data, and no more than the peer takes.
 /// - No transfer has more data than the peer takes.
-/// - A length that is announced is that of its transfer.
+/// - Each announced length is the length of its transfer.
 pub fn keeps_limits(options: &PackOptions, bytes: &[u8])
     ensures { IsStreamForPeer options.now ((pack_tool options.now).whole bytes.now).texts.output }
 {
@@ -85,14 +85,15 @@ pub fn unpack_of_pack(options: &PackOptions, bytes: &[u8])
 /// A packed stream breaks no rules except those that its bundles break.
 ///
 /// Let the input be packed without a fault, and let the limits of the peer be no less than those of
-/// packing. Let the node ID keep `node-id` and `node-name`, and the interval `keepalive-interval`.
-/// Then `check` of the stream has a line for each rule that a bundle of the input breaks, and no
-/// other line.
+/// packing. Let the node ID keep the rules `node-id` and `node-name`, and let the keepalive
+/// interval keep the rule `keepalive-interval`. Then `check` of the stream has a line for each rule
+/// that a bundle of the input breaks, and no other line.
 #[tactic(auto, using(crate::proofs::Packed::is_packed, crate::proofs::PackedRules::breaks_no_more))]
 pub fn check_of_pack(options: &PackOptions, bytes: &[u8])
     ensures { (peer : PeerLimits) → ((pack_tool options.now).whole bytes.now).status ≡ 0
-        → AllowsLimits options.now peer → KeepsInitRules options.now
-        → BreaksNoMore peer bytes.now ((pack_tool options.now).whole bytes.now).texts.output }
+        → IsWithinPeerLimits options.now peer → OptionsKeepInitRules options.now
+        → BreaksNoMoreThanItsBundles peer bytes.now
+        ((pack_tool options.now).whole bytes.now).texts.output }
 {
     options_fit(options);
     input_fits(bytes);
@@ -124,7 +125,7 @@ pub fn list_of_pack(options: &PackOptions, bytes: &[u8])
 /// Both have status 0.
 #[tactic(auto, using(crate::proofs::SameRules::same_lines))]
 pub fn bundles_of_unpack(bytes: &[u8])
-    ensures { ((unpack_tool all).whole bytes.now).status ≡ 0 → HasSameLines bytes.now }
+    ensures { ((unpack_tool all).whole bytes.now).status ≡ 0 → HasSameBlockLinesUnpacked bytes.now }
 {
     input_fits(bytes);
     exactly_one_reading();
@@ -132,10 +133,11 @@ pub fn bundles_of_unpack(bytes: &[u8])
 
 /// The bundles that `unpack` joins break the same rules as in the recording.
 ///
-/// Let every transfer of a recording be over and good, and let there be no fault: `unpack` without
-/// options has status 0. Then `check --bundles`, for the output of `unpack`, writes the lines of
-/// the rules of bundles that `check` writes for the recording, in the same order. Only two things
-/// differ: the offset, and the number of the bundle, which replaces the ID of its transfer.
+/// Let `unpack` without options have status 0 for a recording. Then every transfer is over and
+/// good, and there is no fault. Some lines that `check` writes for the recording are of rules of
+/// bundles. For the output of `unpack`, `check --bundles` writes these lines, in the same order.
+/// Only two things differ: the offset, and the number of the bundle, which replaces the ID of its
+/// transfer.
 #[tactic(auto, using(crate::proofs::SameRules::same_rules))]
 pub fn check_of_unpack(bytes: &[u8])
     ensures { (peer : PeerLimits) → ((unpack_tool all).whole bytes.now).status ≡ 0
@@ -153,38 +155,37 @@ pub fn check_of_unpack(bytes: &[u8])
 pub fn unpack_of_checked()
     ensures { (peer : PeerLimits) (bytes : List ℕ)
         → ((check_tool (record { must = true; peer = peer })).whole bytes).status ≡ 0
-        → HasOnlyAllowed bytes }
+        → HasOnlyAllowedFaults bytes }
 {}
 
 /// `unpack` without options loses no byte of data, and repeats none.
 ///
-/// For all transfers, and without `--payload`, its output is the data of the segments that were
-/// accepted, in order. If a fault of the order does not end the run, its output is the data of the
-/// segments that are not stray, in order.
+/// Its output is the data of the segments that were accepted, in order. With `--keep-going` and no
+/// other option, its output is the data of the segments that are not stray, in order.
 #[tactic(auto, using(crate::proofs::Cuts::every_byte, crate::proofs::Cuts::every_taken_byte))]
 pub fn every_byte_once()
-    ensures stopping { (bytes : List ℕ) → HasEveryByte bytes }
-    ensures going_on { (bytes : List ℕ) → HasEveryTakenByte bytes }
+    ensures stopping { (bytes : List ℕ) → UnpacksToAllData bytes }
+    ensures going_on { (bytes : List ℕ) → UnpacksToNonStrayData bytes }
 {}
 
 /// The report of `unpack` says how the output divides into transfers.
 ///
 /// The transfer of each line begins in the output where the transfers before it end. The output
-/// after the last of them belongs to a transfer that a fault left open. If a fault of the order
-/// does not end the run, the same holds of the lines of transfers. Beside them, the report has a
-/// line for each head that is not in order.
+/// after the last of them belongs to a transfer that a fault left open. With `--keep-going`, the
+/// same holds of the lines of transfers. Beside them, the report has a line for each head that is
+/// not in order.
 pub fn report_cuts_output()
     ensures stopping { (wanted : Wanted) (bytes : List ℕ)
-        → DividesOutput (stopping wanted) bytes }
+        → ReportDividesOutput (stopping wanted) bytes }
     ensures going_on { (wanted : Wanted) (bytes : List ℕ)
-        → DividesOutputGoingOn (going_on wanted) bytes }
+        → ReportDividesOutputKeepGoing (going_on wanted) bytes }
 {}
 
 /// If all messages of a stream are in order, `--keep-going` changes nothing of what `unpack` makes
 /// of the stream.
 #[tactic(auto, using(crate::proofs::Same::same))]
 pub fn same_in_order()
-    ensures { (wanted : Wanted) (bytes : List ℕ) → IsSameIfInOrder wanted bytes }
+    ensures { (wanted : Wanted) (bytes : List ℕ) → IsKeepGoingIdleIfInOrder wanted bytes }
 {}
 
 /// `unpack` can be defined in two ways: by events, and by the transfers of the whole stream.

@@ -9,31 +9,31 @@ ghost use Rattle.link_wire.specs.Bytes.{AreBytes};
 ghost use Rattle.link_tool_list.specs.Listing.{list_tool};
 ghost use Rattle.link_run_judge.specs.Unpacking.{unpack_tool};
 ghost use Rattle.link_run.specs.Run.{Tool};
-ghost use Rattle.link_tools_laws.specs.Withheld.{SaysLess, WithholdsNothing};
+ghost use Rattle.link_tools_laws.specs.Withheld.{SaysLess, HasLongestSoFar};
 
 use link_wire::laws::exactly_one_reading;
 
-/// What the texts of all inputs that begin with some bytes share, the texts that these bytes
-/// determine have too.
+/// Nothing is missing from the texts that some bytes determine.
 ///
-/// Let all these inputs have the same bytes at the beginning of their outputs. Then the determined
-/// output has these bytes. Let all of them have the same whole lines at the beginning of their
-/// reports. Then the determined report has these lines.
+/// Take all inputs that begin with these bytes. If all their outputs begin with the same text, the
+/// determined output begins with this text too. If all their reports begin with the same whole
+/// lines, the determined report begins with these lines too.
 pub fn sofar_is_all()
-    ensures list { (bytes : List ℕ) → AreBytes bytes → WithholdsNothing list_tool bytes }
+    ensures list { (bytes : List ℕ) → AreBytes bytes → HasLongestSoFar list_tool bytes }
     ensures unpack { (wanted : Wanted) (bytes : List ℕ) → AreBytes bytes
-        → WithholdsNothing (unpack_tool wanted) bytes }
+        → HasLongestSoFar (unpack_tool wanted) bytes }
 {
     exactly_one_reading();
 }
 
 /// A definition that withholds something breaks the law.
 ///
-/// Let a definition make the same of whole inputs as the tool. After some bytes, let it lack bytes
-/// of the output, or whole lines of the report. Then the law `sofar_is_all` does not hold of it.
+/// Let the definition `less` agree with the tool on all whole inputs. After some bytes, let it lack
+/// bytes of the output, or whole lines of the report. Then the law `sofar_is_all` does not hold of
+/// `less`.
 pub fn less_is_not_all()
     ensures list { (less : Tool) (bytes : List ℕ) → SaysLess list_tool less bytes
-        → WithholdsNothing less bytes → ⊥ }
+        → HasLongestSoFar less bytes → ⊥ }
     ensures unpack { (wanted : Wanted) (less : Tool) (bytes : List ℕ)
-        → SaysLess (unpack_tool wanted) less bytes → WithholdsNothing less bytes → ⊥ }
+        → SaysLess (unpack_tool wanted) less bytes → HasLongestSoFar less bytes → ⊥ }
 {}

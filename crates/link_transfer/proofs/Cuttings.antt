@@ -3,7 +3,7 @@ use Rattle.std.proofs.Common.{◌≡◌, ℕ, zero, suc, ◌+◌, ◌-◌, ◌*�
 use Rattle.std.specs.List.{flat_map}
 use Rattle.std.proofs.lemmas.{Nat.div_below}
 use Rattle.std.proofs.lemmas.List.{append-nil, length-append, length-take, length-take-le, length-drop, take_all, take_at, drop_at, drop-drop, nil_from_length, take-append-drop}
-use Rattle.link_transfer.specs.Chunks.{chunk_count, chunks, first_chunks, AreSegments, AreChunks}
+use Rattle.link_transfer.specs.Chunks.{chunk_count, chunks, first_chunks, HaveChunkSizes, AreChunks}
 use Rattle.link_transfer.proofs.{Chunking.first_chunks-zero, Due.{fits, fits_back}}
 
 -- the first chunk, and then those of the other bytes
@@ -55,7 +55,7 @@ counted_rest segment count bundle is = record {
 
 -- the chunks have the sizes of segments
 sizes_of : (segment count : ℕ) (bundle : List ℕ) → AreCounted segment count (length bundle)
-    → AreSegments segment (first_chunks segment count bundle)
+    → HaveChunkSizes segment (first_chunks segment count bundle)
 sizes_of segment zero bundle is = rw first_chunks-zero tt
 sizes_of segment (suc zero) bundle is =
     rw (first_chunks-suc segment 0 bundle, first_chunks-zero) (
@@ -85,7 +85,7 @@ joined_of segment (suc count) bundle is =
     ) (take-append-drop segment bundle)
 
 -- a list with the sizes of segments is the list of chunks
-only_chunks : (segment : ℕ) (list : List (List ℕ)) → 0 < segment → AreSegments segment list
+only_chunks : (segment : ℕ) (list : List (List ℕ)) → 0 < segment → HaveChunkSizes segment list
     → list ≡ chunks segment (joined list)
 unfolding chunks
 only_chunks segment [] some sizes =

@@ -7,7 +7,7 @@ use Rattle.std.proofs.Math.Bool.{and-false, and-true}
 use Rattle.link_wire.specs.Bytes.{IsByte}
 use Rattle.link_transfer.specs.Chunks.{chunk_count, chunks, first_chunks}
 use Rattle.link_transfer.specs.Cutting.{Cutting, beginning, due, due_of, announcement, is_first, is_last, next_chunk, next_cut, after_cut, without_chunk, uncut}
-use Rattle.link_transfer.specs.Cutter.{IsCutterAt, IsLastChunk, cut_waits, kept_size}
+use Rattle.link_transfer.specs.Cutter.{IsCutterAt, IsLatestChunk, has_ready_chunk, kept_size}
 use Rattle.link_transfer.specs.{Held.{is_last_of, announcement_of, cut_of}, declared.cut.Cut.Cut}
 use Rattle.link_transfer.specs.declared.cutter.Cutter.{Cutter}
 use Rattle.link_transfer.proofs.Chunking.{first_chunks-zero, first_chunks-push}
@@ -51,7 +51,7 @@ announced-at cutter so_far at =
     (announced_is so_far.whole so_far.segment so_far.hold (length so_far.given) (length so_far.bundle))
 
 waiting_test : (cutter : Cutter) (so_far : Cutting) (waiting : Bool) → IsCutterAt cutter so_far
-    → cut_waits cutter ≡ waiting
+    → has_ready_chunk cutter ≡ waiting
     → ltb (length so_far.given) (due so_far) ≡ waiting
 waiting_test cutter so_far waiting at is = sym (next_cut-is so_far) ∙ sym (waits-at cutter so_far at) ∙ is
 
@@ -65,7 +65,7 @@ unfolding next_cut
 next_cut-some so_far test = rw test refl
 
 pub next_cut-at : (cutter : Cutter) (so_far : Cutting) → IsCutterAt cutter so_far
-    → cut_waits cutter ≡ true
+    → has_ready_chunk cutter ≡ true
     → Some (cut_of cutter.begun cutter.ended cutter.segment cutter.hold (length cutter.held.bytes))
     ≡ next_cut so_far
 next_cut-at cutter so_far at waiting =
@@ -74,7 +74,7 @@ next_cut-at cutter so_far at waiting =
     ∙ sym (next_cut-some so_far (waiting_test cutter so_far true at waiting))
 
 pub next_cut-none : (cutter : Cutter) (so_far : Cutting) → IsCutterAt cutter so_far
-    → cut_waits cutter ≡ false → None ≡ next_cut so_far
+    → has_ready_chunk cutter ≡ false → None ≡ next_cut so_far
 unfolding next_cut
 next_cut-none cutter so_far at quiet = rw (waiting_test cutter so_far false at quiet) refl
 
@@ -101,7 +101,7 @@ IsCutterAt-unshown old new so_far segment hold given bytes begun ended at = reco
 }
 
 -- a cut while no chunk is ready
-pub IsCutterAt-forget : (old new : Cutter) (so_far : Cutting) → cut_waits old ≡ false
+pub IsCutterAt-forget : (old new : Cutter) (so_far : Cutting) → has_ready_chunk old ≡ false
     → new.segment ≡ old.segment → new.hold ≡ old.hold
     → new.held.given ≡ [] → new.held.bytes ≡ old.held.bytes → new.begun ≡ old.begun
     → new.ended ≡ old.ended
@@ -130,7 +130,7 @@ pub record CutsChunk (old new : Cutter) (last : Bool) : Type 0 where
 -- the bytes given last are the next chunk
 chunk_given : (old new : Cutter) (so_far : Cutting) (last : Bool) → CutsChunk old new last
     → IsCutterAt old so_far
-    → length so_far.given < due so_far → IsLastChunk (Some (next_chunk so_far)) new.held.given
+    → length so_far.given < due so_far → IsLatestChunk (Some (next_chunk so_far)) new.held.given
 unfolding due
 chunk_given old new so_far last gives at few =
     let left = uncut so_far in
@@ -218,7 +218,7 @@ with_next old new so_far false is gives at few =
       kept = kept_after old new so_far false gives at;
     }
 
-pub IsCutterAt-cut : (old new : Cutter) (so_far : Cutting) → cut_waits old ≡ true
+pub IsCutterAt-cut : (old new : Cutter) (so_far : Cutting) → has_ready_chunk old ≡ true
     → CutsChunk old new (is_last so_far) → IsCutterAt old so_far
     → IsCutterAt new (after_cut so_far)
 unfolding after_cut

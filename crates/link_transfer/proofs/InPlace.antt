@@ -4,7 +4,7 @@ use Rattle.std.proofs.lemmas.{Bool.false≢true, Bool.Decides.nat_tests}
 use Rattle.std.proofs.lemmas.List.{take_all, drop_all, nil_from_length}
 use Rattle.link_wire.specs.Bytes.{AreBytes}
 use Rattle.link_transfer.specs.Cutting.{Cutting, with_bytes, is_last, next_chunk, next_cut, after_cut, without_chunk}
-use Rattle.link_transfer.specs.{Cutter.{IsCutterAt, cut_waits}, Held.{waits, cut_of, is_chunk}}
+use Rattle.link_transfer.specs.{Cutter.{IsCutterAt, has_ready_chunk}, Held.{waits, cut_of, is_chunk}}
 use Rattle.link_transfer.specs.declared.{cut.Cut.Cut, cutter.Cutter.Cutter}
 use Rattle.link_transfer.proofs.Giving.{CutsChunk, same_cut, next_cut-at, last-at, IsCutterAt-cut, IsCutterAt-unshown}
 use Rattle.link_transfer.proofs.Steps.{IsCutterAt-push}
@@ -29,7 +29,7 @@ chunk_cut begun last segment hold size few =
 -- ---- the history of the cutter
 
 module _ (old : Cutter) (so_far : Cutting) (bytes : List ℕ) (last : Bool)
-    (at : IsCutterAt old so_far) (quiet : cut_waits old ≡ false) (none : length old.held.bytes ≡ 0)
+    (at : IsCutterAt old so_far) (quiet : has_ready_chunk old ≡ false) (none : length old.held.bytes ≡ 0)
     (are : AreBytes bytes) (is : is_chunk old.begun last old.segment old.hold (length bytes) ≡ true) where
   some : 0 < length bytes
   some = (chunk_some old.begun last old.segment old.hold (length bytes) old.some is).0
@@ -80,11 +80,11 @@ module _ (old : Cutter) (so_far : Cutting) (bytes : List ℕ) (last : Bool)
         room = omega (arith, none, few);
       }) at
 
-  cut_waits-true : cut_waits taken ≡ true
-  cut_waits-true = chunk_waits old.begun last old.segment old.hold (length bytes) is
+  has_ready_chunk-true : has_ready_chunk taken ≡ true
+  has_ready_chunk-true = chunk_waits old.begun last old.segment old.hold (length bytes) is
 
   pub here_cut : next_cut now ≡ Some (record { first = not old.begun; last = last; announce = None })
-  here_cut = sym (next_cut-at taken now taken_at cut_waits-true) ∙ ap (λ (cut : Cut). Some cut) (chunk_cut old.begun last old.segment old.hold (length bytes) few)
+  here_cut = sym (next_cut-at taken now taken_at has_ready_chunk-true) ∙ ap (λ (cut : Cut). Some cut) (chunk_cut old.begun last old.segment old.hold (length bytes) few)
 
   pub here_chunk : next_chunk now ≡ bytes
   here_chunk = ap₂ (λ segment (left : List ℕ). take segment left) (sym taken_at.segment) (sym taken_at.held) ∙ take_all old.segment bytes few
@@ -103,7 +103,7 @@ module _ (old : Cutter) (so_far : Cutting) (bytes : List ℕ) (last : Bool)
   }
 
   cut_at : IsCutterAt cut (after_cut now)
-  cut_at = IsCutterAt-cut taken cut now cut_waits-true (subst (CutsChunk taken cut) (sym last_same) gives) taken_at
+  cut_at = IsCutterAt-cut taken cut now has_ready_chunk-true (subst (CutsChunk taken cut) (sym last_same) gives) taken_at
 
   pub here_after : (new : Cutter) → new.segment ≡ old.segment → new.hold ≡ old.hold
       → new.held.given ≡ [] → length new.held.bytes ≡ 0 → new.begun ≡ not last → new.ended ≡ false

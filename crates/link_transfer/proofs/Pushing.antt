@@ -3,7 +3,7 @@ use Rattle.std.proofs.Common.{◌≡◌, ℕ, zero, suc, ◌+◌, ◌-◌, ◌*�
 use Rattle.std.proofs.{lemmas.{List.{append_assoc, length_push}, Bool.false≢true}, Math.Bool.and-false}
 use Rattle.std.proofs.lemmas.Bool.Decides.{nat_tests}
 use Rattle.link_transfer.specs.Cutting.{Cutting, due, due_of, next_cut, with_bytes, with_each}
-use Rattle.link_transfer.specs.{Cutter.{IsCutterAt, cut_waits}, Held.{waits, wanted_size}}
+use Rattle.link_transfer.specs.{Cutter.{IsCutterAt, has_ready_chunk}, Held.{waits, wanted_size}}
 use Rattle.link_transfer.specs.declared.cutter.Cutter.{Cutter}
 use Rattle.link_transfer.proofs.Due.{waits_as_due, given_within, due_more, wanted_some, waits_when_wanted}
 use Rattle.link_transfer.proofs.Steps.{next_cut-is, goes_on, waits-at, size_of}
@@ -121,7 +121,7 @@ with_each-none (byte ∷ bytes) last so_far none = absurd (omega arith)
 
 -- the history of a cutter with no chunk ready
 pub Quiet-at : (cutter : Cutter) (so_far : Cutting) → IsCutterAt cutter so_far
-    → cut_waits cutter ≡ false → Quiet so_far
+    → has_ready_chunk cutter ≡ false → Quiet so_far
 unfolding due
 Quiet-at cutter so_far at quiet =
     let going = goes_on cutter so_far at quiet in
@@ -140,6 +140,6 @@ pub wanted-at : (cutter : Cutter) (so_far : Cutting) → IsCutterAt cutter so_fa
 wanted-at cutter so_far at = rw (at.begun, at.segment, at.hold, size_of cutter so_far at) refl
 
 pub wanted_some-at : (cutter : Cutter) (so_far : Cutting) → IsCutterAt cutter so_far
-    → cut_waits cutter ≡ false
+    → has_ready_chunk cutter ≡ false
     → 0 < wanted_size cutter.begun cutter.segment cutter.hold (length cutter.held.bytes)
 wanted_some-at cutter so_far at quiet = omega (arith, wanted_first so_far (Quiet-at cutter so_far at quiet), wanted-at cutter so_far at)

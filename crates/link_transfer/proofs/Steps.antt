@@ -6,7 +6,7 @@ use Rattle.std.specs.Bool.{OnFalse}
 use Rattle.std.proofs.lemmas.Bool.Decides.{nat_tests}
 use Rattle.std.proofs.lemmas.List.{length-drop, length-append, drop-append-le, drop_all}
 use Rattle.link_transfer.specs.Cutting.{Cutting, beginning, due, due_of, next_cut, with_bytes, shown_by}
-use Rattle.link_transfer.specs.{Cutter.{IsCutterAt, IsLastChunk, cut_waits}, Held.waits}
+use Rattle.link_transfer.specs.{Cutter.{IsCutterAt, IsLatestChunk, has_ready_chunk}, Held.waits}
 use Rattle.link_transfer.specs.declared.cutter.Cutter.{Cutter}
 use Rattle.link_transfer.proofs.Chunking.{first_chunks-zero, first_chunks-append}
 use Rattle.link_transfer.proofs.Due.{waits_as_due, given_within, due_more, chunk_left}
@@ -23,7 +23,7 @@ pub size_of : (cutter : Cutter) (so_far : Cutting) → IsCutterAt cutter so_far
 size_of cutter so_far at = ap length at.held ∙ length-drop (length so_far.given * so_far.segment) so_far.bundle
 
 pub waits-at : (cutter : Cutter) (so_far : Cutting) → IsCutterAt cutter so_far
-    → cut_waits cutter ≡ is_some (next_cut so_far)
+    → has_ready_chunk cutter ≡ is_some (next_cut so_far)
 unfolding due
 waits-at cutter so_far at =
     rw (at.begun, at.ended, at.segment, at.hold, size_of cutter so_far at)
@@ -31,7 +31,7 @@ waits-at cutter so_far at =
 
 -- if no chunk is ready, all chunks that are due were cut
 pub all_given : (waiting : Bool) (cutter : Cutter) (so_far : Cutting) → IsCutterAt cutter so_far
-    → waiting ≡ cut_waits cutter
+    → waiting ≡ has_ready_chunk cutter
     → OnFalse waiting (length so_far.given ≡ due so_far)
 all_given true cutter so_far at is = tt
 all_given false cutter so_far at is =
@@ -40,22 +40,22 @@ all_given false cutter so_far at is =
     grind (arith, nat_tests)
 
 -- the bytes shown are the chunk of the last cut, which is not empty, or else the bytes held
-pub shown_left : (chunk : Option (List ℕ)) (given left : List ℕ) → IsLastChunk chunk given
+pub shown_left : (chunk : Option (List ℕ)) (given left : List ℕ) → IsLatestChunk chunk given
     → length given ≡ 0 → left ≡ shown_by chunk left
 shown_left None given left is none = refl
 shown_left (Some chunk) given left is none = absurd (omega (arith, is.1, ap length is.0))
 
-pub shown_chunk : (chunk : Option (List ℕ)) (given left : List ℕ) → IsLastChunk chunk given
+pub shown_chunk : (chunk : Option (List ℕ)) (given left : List ℕ) → IsLatestChunk chunk given
     → 0 < length given → given ≡ shown_by chunk left
 shown_chunk None given left is some = absurd (omega (arith, ap length is))
 shown_chunk (Some chunk) given left is some = is.0
 
 -- a cutter with no chunk ready has an incomplete bundle
-pub not_ended : (cutter : Cutter) → cut_waits cutter ≡ false → cutter.ended ≡ false
+pub not_ended : (cutter : Cutter) → has_ready_chunk cutter ≡ false → cutter.ended ≡ false
 not_ended cutter quiet = (or_parts cutter.ended _ quiet).0
 
 pub goes_on : (cutter : Cutter) (so_far : Cutting) → IsCutterAt cutter so_far
-    → cut_waits cutter ≡ false → so_far.whole ≡ false
+    → has_ready_chunk cutter ≡ false → so_far.whole ≡ false
 goes_on cutter so_far at quiet = sym at.ended ∙ not_ended cutter quiet
 
 -- a cutter that holds nothing is at the beginning
@@ -96,7 +96,7 @@ pub record Pushes (old new : Cutter) (pushed : List ℕ) (last : Bool) : Type 0 
 
 pub IsCutterAt-push : (old new : Cutter) (so_far : Cutting) (pushed : List ℕ) (last : Bool)
     → 0 < length pushed → AreBytes pushed
-    → cut_waits old ≡ false → Pushes old new pushed last → IsCutterAt old so_far
+    → has_ready_chunk old ≡ false → Pushes old new pushed last → IsCutterAt old so_far
     → IsCutterAt new (with_bytes pushed last so_far)
 unfolding due
 IsCutterAt-push old new so_far [] last some are quiet pushes at = absurd (omega arith)

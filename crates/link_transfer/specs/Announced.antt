@@ -4,12 +4,12 @@ use Rattle.link_wire.specs.declared.message.Item.{Item}
 use Rattle.link_transfer.specs.declared.announcement.Announced.{Announced}
 use Rattle.link_transfer.specs.declared.announcement.Announced.TheVariants.{Absent, Total, Malformed}
 
--- whether an item has type 0001, that of Transfer Length items
+-- whether an item is a Transfer Length item, of type 0001
 abbrev pub is_transfer_length : Item → Bool
 is_transfer_length item = item.kind == 1
 
 -- The total, if the item has one. In items that were read, a Transfer Length item of 8 bytes
--- always has one (`TotalFits` of link_wire), so `None` does not occur.
+-- always has one (`HasTotalIfLengthItem` of link_wire), so `None` does not occur.
 abbrev pub total_or_malformed : Option ℕ → Announced
 total_or_malformed (Some total) = Total total
 total_or_malformed None = Malformed

@@ -22,16 +22,15 @@ chunk_count segment size = (size + (segment - 1)) / segment
 unfoldable pub chunks : (segment : ℕ) → List ℕ → List (List ℕ)
 chunks segment bundle = first_chunks segment (chunk_count segment (length bundle)) bundle
 
--- each chunk has the size of a segment, except the last, which has at least one byte and at most
--- that many
-abbrev pub AreSegments : (segment : ℕ) → List (List ℕ) → Type 0
-AreSegments segment [] = Unit {0}
-AreSegments segment (chunk ∷ []) = (0 < length chunk) × (length chunk ≤ segment)
-AreSegments segment (chunk ∷ next ∷ more) =
-    (length chunk ≡ segment) × AreSegments segment (next ∷ more)
+-- Each chunk has exactly `segment` bytes. Only the last chunk may have fewer, but at least one.
+abbrev pub HaveChunkSizes : (segment : ℕ) → List (List ℕ) → Type 0
+HaveChunkSizes segment [] = Unit {0}
+HaveChunkSizes segment (chunk ∷ []) = (0 < length chunk) × (length chunk ≤ segment)
+HaveChunkSizes segment (chunk ∷ next ∷ more) =
+    (length chunk ≡ segment) × HaveChunkSizes segment (next ∷ more)
 
 -- The list has the properties of a bundle's chunks: joined they are the bundle, and their sizes are
--- as `AreSegments` says.
+-- as `HaveChunkSizes` says.
 pub record AreChunks (segment : ℕ) (bundle : List ℕ) (list : List (List ℕ)) : Type 0 where
   pub joined : flat_map (λ chunk. chunk) list ≡ bundle
-  pub sizes : AreSegments segment list
+  pub sizes : HaveChunkSizes segment list

@@ -11,9 +11,9 @@ pub record Cutting : Type 0 where
   -- the bytes of the current bundle that were pushed, and whether its last byte was among them
   pub bundle : List ℕ
   pub whole : Bool
-  -- the chunks of it that were cut
+  -- the chunks of the current bundle that were cut
   pub given : List (List ℕ)
-  -- the chunk of the last cut, until the next push or cut
+  -- the chunk of the latest cut, until the next push or cut
   pub chunk : Option (List ℕ)
 
 -- the history of a new cutter: no byte was pushed
@@ -21,7 +21,7 @@ abbrev pub beginning : (segment hold : ℕ) → Cutting
 beginning segment hold =
     record { segment = segment; hold = hold; bundle = []; whole = false; given = []; chunk = None }
 
--- The history after these bytes were pushed, too. `last` is whether they end with the bundle's last
+-- The history after these bytes were also pushed. `last` is whether they end with the bundle's last
 -- byte. Without bytes nothing changes.
 abbrev pub with_bytes : List ℕ → (last : Bool) → Cutting → Cutting
 with_bytes [] last so_far = so_far
@@ -41,8 +41,8 @@ due_of whole segment hold size =
 unfoldable pub due : Cutting → ℕ
 due so_far = due_of so_far.whole so_far.segment so_far.hold (length so_far.bundle)
 
--- The length that is announced (RFC 9174 section 5.2.5.1). It is that of a whole bundle of more
--- than one segment and at most `hold` bytes.
+-- The length that is announced (RFC 9174 section 5.2.5.1). Only a whole bundle of more than one
+-- segment and at most `hold` bytes announces its length.
 unfoldable pub announcement : Cutting → Option ℕ
 announcement so_far =
     if so_far.whole && (nat_lt so_far.segment (length so_far.bundle)
@@ -74,7 +74,7 @@ next_cut so_far =
     })
     else None
 
--- The history after the next chunk was cut, too. After the last chunk, another bundle begins.
+-- The history after the next chunk was also cut. After the last chunk, another bundle begins.
 abbrev pub with_chunk : Cutting → Cutting
 with_chunk so_far =
     if is_last so_far
@@ -84,13 +84,13 @@ with_chunk so_far =
       chunk = Some (next_chunk so_far);
     }
 
--- The history after a call of `cut`. If no chunk was ready, only the chunk of the cut before is no
--- longer shown.
+-- The history after a call of `cut`. If no chunk was ready, the only change is that the chunk of
+-- the cut before it is no longer shown.
 unfoldable pub after_cut : Cutting → Cutting
 after_cut so_far =
     if is_some (next_cut so_far) then with_chunk so_far else record so_far { chunk = None }
 
--- the chunk of the last cut is no longer shown
+-- the chunk of the latest cut is no longer shown
 abbrev pub without_chunk : Cutting → Cutting
 without_chunk so_far = record so_far { chunk = None }
 
@@ -98,7 +98,8 @@ without_chunk so_far = record so_far { chunk = None }
 abbrev pub uncut : Cutting → List ℕ
 uncut so_far = drop (length so_far.given * so_far.segment) so_far.bundle
 
--- the bytes that are shown: the chunk of the last cut, or else `left`, the bytes that were not cut
+-- The bytes that are shown: the chunk of the latest cut, or `left` if there is no such chunk.
+-- `left` are the bytes that were not cut.
 abbrev pub shown_by : Option (List ℕ) → List ℕ → List ℕ
 shown_by (Some chunk) left = chunk
 shown_by None left = left

@@ -17,8 +17,8 @@ pub record HeldBytes : Type 0 where
 abbrev pub waits : (begun ended : Bool) (segment hold size : ℕ) → Bool
 waits begun ended segment hold size = ended || (nat_le segment size && (begun || nat_lt hold size))
 
--- The number of further bytes after which a chunk is ready, if `size` bytes are held, and none of
--- the further bytes is the bundle's last.
+-- The number of further bytes that are needed until a chunk is ready, if the bundle does not end
+-- earlier. `size` bytes are held.
 abbrev pub wanted_size : (begun : Bool) (segment hold size : ℕ) → ℕ
 wanted_size begun segment hold size = (if begun then segment else max segment (hold + 1)) - size
 

@@ -53,22 +53,23 @@ has_sess_init before = list_any is_sess_init (events_of before)
 unfoldable pub has_sess_term : List Message → Bool
 has_sess_term before = list_any is_sess_term (events_of before)
 
--- The ID of the transfer that is open after a segment: that of the segment, unless the segment has
--- END. No other is open, since segments of two transfers are never interleaved (sections 5.2 and
--- 5.2.2). This is only used for segments.
+-- The ID of the transfer that is open after a segment. If the segment has no END, its own transfer
+-- is open. No other is open, since segments of two transfers are never interleaved (sections 5.2
+-- and 5.2.2). This is only used for segments.
 abbrev pub open_after : Event → Option ℕ
 open_after (Segment flags id) = if is_end flags then None else Some id
 open_after SessInit = None
 open_after SessTerm = None
 open_after Other = None
 
--- the ID of the open transfer, which is that of the last segment unless it has END
+-- The ID of the open transfer, or `None`. It is the ID of the latest segment, unless that segment
+-- has END.
 unfoldable pub open_of : List Message → Option ℕ
 open_of before = option_and_then open_after (find is_segment (reverse (events_of before)))
 
--- The ID of the transfer whose next segment may come: the open transfer, but none before a
--- SESS_INIT was accepted. (A run that goes on after faults has open transfers before a SESS_INIT,
--- too.)
+-- The ID of the transfer whose next segment may come. It is the open transfer, if a SESS_INIT was
+-- accepted. A run that goes on after faults may have an open transfer before a SESS_INIT. Until the
+-- SESS_INIT comes, the segments of that transfer are refused.
 abbrev pub continuable : List Message → Option ℕ
 continuable before = if has_sess_init before then open_of before else None
 
@@ -79,17 +80,17 @@ is_of transfer SessTerm = false
 is_of transfer (Segment flags id) = option_eq ◌==◌ transfer (Some id)
 is_of transfer Other = false
 
--- The first reason why a message may not come. `initiated` is whether a SESS_INIT was accepted
--- before, and `terminated` is whether a SESS_TERM was. `transfer` is the open transfer.
+-- The first reason why a message is refused, or `None`. `initiated` is whether a SESS_INIT was
+-- accepted before, and `terminated` is whether a SESS_TERM was. `transfer` is the open transfer.
 -- 1. The parameters of a session do not change (section 4.7), and a SESS_INIT is not expected once
 --    it is established (section 5.1.2). So a second one is refused.
 -- 2. No bundle is transferred before the session is established (section 4).
 -- 3. A segment without START continues the transfer of the segments before it (section 5.2.2), so
 --    that transfer has to be open.
--- 4. A segment with START is the first of its transfer (section 5.2.2), so the transfer may not be
+-- 4. A segment with START is the first of its transfer (section 5.2.2), so the transfer must not be
 --    open yet.
 -- 5. No transfer begins after SESS_TERM, but the open one may be finished (section 6.1).
--- A START with another ID than that of the open transfer is no fault. The sender of a transfer that
+-- An open transfer with another ID is no reason to refuse a START. The sender of a transfer that
 -- was refused leaves it without END (section 5.2.4).
 abbrev pub refusal_by : (initiated terminated : Bool) (transfer : Option ℕ) → Event
     → Option OrderFault
@@ -101,7 +102,7 @@ refusal_by initiated terminated transfer event =
     else if begins event && terminated then Some StartAfterSessTerm
     else None
 
--- the reason why a message may not follow those before it
+-- the first reason why a message is refused after the messages before it, or `None`
 unfoldable pub refusal : List Message → Event → Option OrderFault
 refusal before event =
     refusal_by (has_sess_init before) (has_sess_term before) (open_of before) event
@@ -148,8 +149,8 @@ effect_by false done = Some done
 unfoldable pub effect_of : List Message → Event → Option Turn
 effect_of before event = effect_by (is_stray before event) (turn_of before event)
 
--- The messages before, and then this one unless it is stray. If every message is taken, the order
--- of the next one depends on this list.
+-- The messages before, and then this one unless it is stray. A run that goes on after refused
+-- messages judges the next message by this list.
 abbrev pub appended_unless : (stray : Bool) → List Message → Message → List Message
 appended_unless true before message = before
 appended_unless false before message = before ++ message ∷ []

@@ -15,7 +15,7 @@ use std::alloc::{AllocError, Global};
 /// bundle.
 #[derive(Drop)]
 pub struct Cutter {
-    /// The bytes that were not cut, and the chunk of the last cut.
+    /// The bytes that were not cut, and the chunk of the latest cut.
     held: Held,
     /// The greatest length of a chunk.
     segment: usize,
@@ -34,7 +34,7 @@ pub struct Cutter {
 impl Cutter {
     ghost use Rattle.link_transfer.specs.Chunks.{chunks};
     ghost use Rattle.link_transfer.specs.Cutting.{Cutting, beginning, with_bytes, with_each, due, next_chunk, next_cut, after_cut, without_chunk, shown};
-    ghost use Rattle.link_transfer.specs.Cutter.{IsCutterAt, cut_waits, wanted_by, held_size};
+    ghost use Rattle.link_transfer.specs.Cutter.{IsCutterAt, has_ready_chunk, wanted_by, held_size};
     ghost use Rattle.link_transfer.specs.Held.{cut_of, is_chunk, is_last_of, announcement_of};
 
     /// A cutter for segments of at most `segment` bytes. It announces lengths up to `hold` bytes.
@@ -47,7 +47,7 @@ impl Cutter {
         requires segment_within { segment ≤ 65536 }
         requires hold_within { hold ≤ 1048576 }
         ensures start { IfOk result (λ cutter. IsCutterAt cutter (beginning segment hold)) }
-        ensures quiet { IfOk result (λ cutter. cut_waits cutter ≡ false) }
+        ensures quiet { IfOk result (λ cutter. has_ready_chunk cutter ≡ false) }
     {
         Cutter::over(
             Vec::with_capacity(alloc, segment.max(hold + 1)),
@@ -67,7 +67,7 @@ impl Cutter {
         requires empty { IfOk memory (λ buffer. buffer.items ≡ []) }
         requires room { IfOk memory (λ buffer. vec_capacity buffer ≡ max segment (hold + 1)) }
         ensures start { IfOk result (λ cutter. IsCutterAt cutter (beginning segment hold)) }
-        ensures quiet { IfOk result (λ cutter. cut_waits cutter ≡ false) }
+        ensures quiet { IfOk result (λ cutter. has_ready_chunk cutter ≡ false) }
         ensures given { is_ok result ≡ is_ok memory }
     {
         Ok(Cutter {
@@ -84,7 +84,7 @@ impl Cutter {
     /// If none is, every chunk that is due so far was cut.
     #[inline]
     pub fn waiting(&self) -> bool
-        ensures waits { result ≡ cut_waits self.now }
+        ensures waits { result ≡ has_ready_chunk self.now }
         ensures cut { (so_far : Cutting) → IsCutterAt self.now so_far
             → result ≡ is_some (next_cut so_far) }
         ensures given { (so_far : Cutting) → IsCutterAt self.now so_far
@@ -99,13 +99,14 @@ impl Cutter {
     /// be announced.
     #[inline]
     fn waits(&self) -> bool
-        ensures { result ≡ cut_waits self.now }
+        ensures { result ≡ has_ready_chunk self.now }
     {
         let size = self.held.len();
         self.ended || size >= self.segment && (self.begun || size > self.hold)
     }
 
-    /// The chunk of the last cut, until the next push or cut, or else the bytes that were not cut.
+    /// Returns the chunk of the latest cut, until the next push or cut. At any other time, returns
+    /// the bytes that were not cut.
     pub fn bytes(&self) -> &[u8]
         ensures { (so_far : Cutting) → IsCutterAt self.now so_far → result.now ≡ shown so_far }
     {
@@ -117,12 +118,12 @@ impl Cutter {
         }
     }
 
-    /// Takes the next byte of the current bundle; `last` is whether it is the bundle's last.
+    /// Takes the next byte of the current bundle. `last` is whether it is the bundle's last byte.
     ///
-    /// It may be called only if no chunk is ready.
+    /// This may be called only if no chunk is ready.
     #[inline]
     pub fn push(&mut self, byte: u8, last: bool)
-        requires { cut_waits self.old ≡ false }
+        requires { has_ready_chunk self.old ≡ false }
         ensures { (so_far : Cutting) → IsCutterAt self.old so_far
             → IsCutterAt self.new (with_bytes (byte ∷ []) last so_far) }
     {
@@ -132,11 +133,11 @@ impl Cutter {
 
     /// Takes bytes of the current bundle until a chunk is ready, or all, and returns how many.
     ///
-    /// `last` is whether the last byte of the slice is the bundle's last. It may be called only if
-    /// no chunk is ready. Pushing the same bytes one at a time has the same effect.
+    /// `last` is whether the last byte of the slice is the bundle's last. Pushing the same bytes
+    /// one at a time has the same effect. This may be called only if no chunk is ready.
     #[inline]
     pub fn push_slice(&mut self, bytes: &[u8], last: bool) -> usize
-        requires { cut_waits self.old ≡ false }
+        requires { has_ready_chunk self.old ≡ false }
         ensures within { result ≤ length bytes.now }
         ensures some { 0 < length bytes.now → 0 < result }
         ensures whole { length bytes.now ≤ wanted_by self.old → result ≡ length bytes.now }
@@ -156,17 +157,15 @@ impl Cutter {
         count
     }
 
-    /// Cuts a chunk where it lies, if these bytes are a whole chunk. The cutter then takes none of
-    /// them.
+    /// Cuts these bytes without taking them, if the cutter holds nothing and they are exactly the
+    /// next chunk. Otherwise returns `None` and changes nothing.
     ///
-    /// `last` is whether the last byte of the slice is the bundle's last. The bytes are a whole
-    /// chunk if the cutter holds nothing, and they would make one chunk that ends with the last of
-    /// them. The effect is that of pushing the bytes, of `cut`, and of another `cut`, which forgets
-    /// the chunk. In all other cases it returns `None`, and nothing changes. It may be called only
-    /// if no chunk is ready.
+    /// `last` is whether the last byte of the slice is the bundle's last. Cutting the bytes has the
+    /// same effect as three calls: a push of the bytes, a `cut`, and a second `cut`, which returns
+    /// `None`. This may be called only if no chunk is ready.
     #[inline(always)]
     pub fn cut_slice(&mut self, bytes: &[u8], last: bool) -> Option<Cut>
-        requires { cut_waits self.old ≡ false }
+        requires { has_ready_chunk self.old ≡ false }
         ensures cut { (so_far : Cutting) → IsCutterAt self.old so_far
             → IfSome result (λ cut. next_cut (with_bytes bytes.now last so_far) ≡ Some cut) }
         ensures chunk { (so_far : Cutting) → IsCutterAt self.old so_far
@@ -174,7 +173,7 @@ impl Cutter {
         ensures after { (so_far : Cutting) → IsCutterAt self.old so_far
             → OnSome result (IsCutterAt self.new
             (without_chunk (after_cut (with_bytes bytes.now last so_far)))) }
-        ensures quiet { cut_waits self.new ≡ false }
+        ensures quiet { has_ready_chunk self.new ≡ false }
         ensures none { IfNone result (self.new ≡ self.old) }
     {
         if self.held.len() > 0 {
@@ -191,7 +190,7 @@ impl Cutter {
         Some(cut)
     }
 
-    /// Whether `size` bytes are one chunk, if the cutter holds nothing.
+    /// Whether the next `size` bytes are exactly the next chunk. No byte may be left uncut.
     ///
     /// `last` is whether the bundle ends with them.
     #[inline(always)]
@@ -204,13 +203,13 @@ impl Cutter {
         size == self.segment && (self.begun || size > self.hold)
     }
 
-    /// The number of further bytes after which a chunk is ready, if none of them is the bundle's
-    /// last.
+    /// The number of further bytes that are needed until a chunk is ready.
     ///
-    /// It may be called only if no chunk is ready.
+    /// If the bundle ends earlier, a chunk is ready at its end. This may be called only if no chunk
+    /// is ready.
     #[inline]
     pub fn wanted(&self) -> usize
-        requires { cut_waits self.now ≡ false }
+        requires { has_ready_chunk self.now ≡ false }
         ensures some { 0 < result }
         ensures value { result ≡ wanted_by self.now }
         ensures room { length self.now.held.bytes + result ≤ self.now.held.room }
@@ -223,15 +222,15 @@ impl Cutter {
         full - self.held.len()
     }
 
-    /// Cuts the next chunk, if one is ready; `bytes` is then that chunk.
+    /// Cuts the next chunk, if one is ready. [`Cutter::bytes`] then returns that chunk.
     ///
     /// After the last chunk of a bundle, the next push begins another bundle.
     pub fn cut(&mut self) -> Option<Cut>
         ensures cut { (so_far : Cutting) → IsCutterAt self.old so_far → result ≡ next_cut so_far }
         ensures after { (so_far : Cutting) → IsCutterAt self.old so_far
             → IsCutterAt self.new (after_cut so_far) }
-        ensures waits { is_some result ≡ cut_waits self.old }
-        ensures quiet { IfNone result (cut_waits self.new ≡ false) }
+        ensures waits { is_some result ≡ has_ready_chunk self.old }
+        ensures quiet { IfNone result (has_ready_chunk self.new ≡ false) }
         ensures shrinks { OnSome result (held_size self.new < held_size self.old) }
         // After the last chunk, all chunks of the bundle were cut.
         ensures all { (so_far : Cutting) → IsCutterAt self.old so_far
@@ -279,8 +278,9 @@ impl Cutter {
         self.ended && self.held.len() <= self.segment
     }
 
-    /// The length of the bundle, if the next chunk announces it: the chunk is the first, and the
-    /// bundle has ended, with more bytes than a segment and at most `hold`.
+    /// The length of the bundle, if the next chunk announces it, or `None`. Only the first chunk
+    /// announces it, and only if the bundle has ended, with more bytes than a segment and at most
+    /// `hold`.
     fn announcement(&self) -> Option<u64>
         ensures { result
             ≡ announcement_of self.now.begun self.now.ended self.now.segment self.now.hold

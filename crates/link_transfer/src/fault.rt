@@ -2,8 +2,7 @@
 
 use thiserror::Error;
 
-/// The reason why a message may not come where it does (RFC 9174 sections 4, 4.7, 5.1.2, 5.2 and
-/// 6.1).
+/// The reason why a message is out of order (RFC 9174 sections 4, 4.7, 5.1.2, 5.2 and 6.1).
 #[derive(Clone, Copy, Debug, PartialEq, Eq, Error)]
 pub enum OrderFault {
     /// A SESS_INIT after a SESS_INIT.

@@ -33,7 +33,7 @@ pub enum Turn {
 /// A message that was taken whether or not it may come.
 #[derive(Clone, Copy, Debug, PartialEq, Eq)]
 pub struct Taken {
-    /// The first reason why the message may not come, if there is one.
+    /// The first reason why the message is refused, if there is one.
     pub fault: Option<OrderFault>,
     /// The effect of the message, or `None` for a stray segment.
     ///
@@ -73,7 +73,7 @@ impl Joiner {
 
     /// The ID of the open transfer.
     ///
-    /// It is the ID of the last segment accepted, unless that segment had END.
+    /// It is the ID of the latest segment accepted, unless that segment had END.
     pub fn open(&self) -> Option<u64>
         ensures { (before : List Message) → IsJoinerAt self.now before → result ≡ open_of before }
     {
@@ -93,7 +93,7 @@ impl Joiner {
         if self.initiated { self.open() } else { None }
     }
 
-    /// The first reason why the event may not come now, or `None` if it may come.
+    /// The first reason why the event is refused now, or `None` if it may come.
     fn refusal(&self, event: Event) -> Option<OrderFault>
         ensures { result ≡ refusal_by self.now.initiated self.now.terminated
             self.now.transfer event }
@@ -107,7 +107,7 @@ impl Joiner {
         }
     }
 
-    /// Why a segment with this ID and without START may not come after a SESS_INIT, or `None`.
+    /// Why a segment with this ID and without START is refused after a SESS_INIT, or `None`.
     fn continuation_refusal(&self, id: u64) -> Option<OrderFault>
         ensures { result ≡ (if option_eq ◌==◌ self.now.transfer (Some id) then None
             else Some OrderFault.NoSuchOpenTransfer) }
@@ -119,7 +119,7 @@ impl Joiner {
         }
     }
 
-    /// Why a segment with this ID and with START may not come after a SESS_INIT, or `None`.
+    /// Why a segment with this ID and with START is refused after a SESS_INIT, or `None`.
     fn start_refusal(&self, id: u64) -> Option<OrderFault>
         ensures { result ≡ (if option_eq ◌==◌ self.now.transfer (Some id)
             then Some OrderFault.StartRepeatsOpenId
@@ -176,7 +176,7 @@ impl Joiner {
         self.event(Event::of(message))
     }
 
-    /// Does [`Joiner::message`] for any message with this event.
+    /// Accepts or refuses any message with this event, as [`Joiner::message`] does.
     pub fn event(&mut self, event: Event) -> Result<Turn, OrderFault>
         ensures judged { (before : List Message) → IsJoinerAt self.old before
             → result ≡ judged_message before event }
@@ -225,7 +225,7 @@ impl Joiner {
         }
     }
 
-    /// Takes an event that may not come, and returns its effect, or `None` for a stray segment.
+    /// Takes an event that is refused, and returns its effect, or `None` for a stray segment.
     #[cold]
     fn take_refused(&mut self, event: Event) -> Option<Turn>
         ensures turn { (before : List Message) → IsJoinerAt self.old before

@@ -2,7 +2,7 @@
 
 ghost use Rattle.std.specs.Prelude.{◌≡◌};
 ghost use Rattle.link_transfer.specs.Announced.{announced_by, announced_with, announced_of};
-ghost use Rattle.link_wire.specs.Message.{TotalsFit};
+ghost use Rattle.link_wire.specs.Message.{HaveTotalsIfLengthItems};
 
 use crate::announcement::Announced;
 use link_wire::{Item, Items};
@@ -23,8 +23,8 @@ fn announced_by(item: &Item) -> Announced
     }
 }
 
-/// The announcement of some items and of this one after them. `announced` is that of the items
-/// before.
+/// The announcement of all items up to this one. `announced` is the announcement of the items
+/// before it.
 fn announced_with(announced: Announced, item: &Item) -> Announced
     ensures { result ≡ announced_with announced item.now }
 {
@@ -42,7 +42,7 @@ fn announced_with(announced: Announced, item: &Item) -> Announced
 /// `total` of a Transfer Length item of 8 bytes has to be the number that those bytes spell. Calls
 /// that read a message set it.
 pub fn announced(items: &Items) -> Announced
-    requires { TotalsFit items.now.items }
+    requires { HaveTotalsIfLengthItems items.now.items }
     ensures { result ≡ announced_of items.now.items }
 {
     let mut announced = Announced::Absent;

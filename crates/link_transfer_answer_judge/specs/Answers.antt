@@ -19,8 +19,9 @@ id_of (Ack flags id size) = id
 id_of (Refuse reason id) = id
 
 -- An acknowledged length is the sum of the data of the segments that the peer has received
--- (section 5.2.3). So it does not fall, it is no more than was sent, and END, the flag of the last
--- segment, comes with the whole alone.
+-- (section 5.2.3). So it does not fall, and it is no more than was sent. END is the flag of the
+-- last segment. So an XFER_ACK with END acknowledges the whole of a transfer whose last segment was
+-- sent.
 abbrev pub ack_fault : Sent → (flags size : ℕ) → Option AnswerFault
 ack_fault sent flags size =
     if nat_lt size sent.acknowledged then Some LengthFalls
@@ -28,8 +29,8 @@ ack_fault sent flags size =
     else if is_end flags && not (sent.whole && (size == sent.length)) then Some EndTooEarly
     else None
 
--- what is wrong with an answer that has the ID of this transfer; nothing is wrong with an
--- XFER_REFUSE
+-- What is wrong with an answer that has the ID of this transfer, or `None`. Nothing is wrong with
+-- an XFER_REFUSE.
 abbrev pub fault_by : Sent → Answer → Option AnswerFault
 fault_by sent (Ack flags id size) = ack_fault sent flags size
 fault_by sent (Refuse reason id) = None
@@ -62,13 +63,14 @@ after_answer sent answer =
 abbrev pub nothing_sent : (id : ℕ) → Sent
 nothing_sent id = record { id = id; length = 0; whole = false; acknowledged = 0 }
 
--- the length in the last XFER_ACK of these answers, the newest first, or 0 if there is none
+-- The length in the newest XFER_ACK of these answers, or 0 if there is none. The list begins with
+-- the newest answer.
 unfoldable pub acknowledged_by : List Answer → ℕ
 acknowledged_by [] = 0
 acknowledged_by (Ack flags id size ∷ older) = size
 acknowledged_by (Refuse reason id ∷ older) = acknowledged_by older
 
--- The acknowledged length is the one in the last XFER_ACK of these answers, the newest first, or 0
--- if there is none. The other fields may be any.
-pub record IsAcknowledgedByAnswers (sent : Sent) (answers : List Answer) : Type 0 where
+-- The acknowledged length is the length in the newest XFER_ACK of these answers, or 0 if there is
+-- none. The list begins with the newest answer. The other fields may be any.
+pub record HasLengthOfLastAck (sent : Sent) (answers : List Answer) : Type 0 where
   pub acknowledged : sent.acknowledged ≡ acknowledged_by answers

@@ -16,8 +16,8 @@ impl Answer {
     ghost use Rattle.std.specs.Prelude.{◌≡◌};
     ghost use Rattle.link_transfer_answer_judge.specs.Answers.{answer_of};
 
-    /// The answer with these fields, or `None` if they are neither those of an XFER_ACK nor those
-    /// of an XFER_REFUSE.
+    /// The answer with these fields, or `None` if they belong to neither an XFER_ACK nor an
+    /// XFER_REFUSE.
     pub fn of(fields: Fields) -> Option<Answer>
         ensures { result ≡ answer_of fields }
     {
@@ -55,20 +55,20 @@ pub struct Sent {
     pub length: u64,
     /// Whether the last segment was sent, which has END.
     pub whole: bool,
-    /// The length in the last XFER_ACK that was accepted, or 0.
+    /// The length in the latest XFER_ACK that was accepted, or 0.
     pub acknowledged: u64,
 }
 
 impl Sent {
     ghost use Rattle.std.specs.Prelude.{◌≡◌, List, [], ◌∷◌, OnOk};
-    ghost use Rattle.link_transfer_answer_judge.specs.Answers.{ack_fault, judged_answer, after_answer, IsAcknowledgedByAnswers, nothing_sent};
+    ghost use Rattle.link_transfer_answer_judge.specs.Answers.{ack_fault, judged_answer, after_answer, HasLengthOfLastAck, nothing_sent};
     ghost use Rattle.link_transfer_answer_judge.specs.declared.answers.Answer.{Answer};
 
     /// A transfer of which nothing was sent.
     #[tactic(auto, unfolding(crate::specs::Answers::acknowledged_by))]
     pub fn new(id: u64) -> Sent
         ensures is { result ≡ nothing_sent id }
-        ensures answers { IsAcknowledgedByAnswers result [] }
+        ensures answers { HasLengthOfLastAck result [] }
     {
         Sent {
             id,
@@ -102,8 +102,8 @@ impl Sent {
     pub fn judge(&mut self, answer: Answer) -> Result<(), AnswerFault>
         ensures judged { result ≡ judged_answer self.old answer }
         ensures after { self.new ≡ after_answer self.old answer }
-        ensures answers { (older : List Answer) → IsAcknowledgedByAnswers self.old older
-            → OnOk result (IsAcknowledgedByAnswers self.new (answer ∷ older)) }
+        ensures answers { (older : List Answer) → HasLengthOfLastAck self.old older
+            → OnOk result (HasLengthOfLastAck self.new (answer ∷ older)) }
     {
         match answer {
             Answer::Ack { id, .. } | Answer::Refuse { id, .. } if id != self.id => {

@@ -6,7 +6,7 @@ use Rattle.link_io.specs.declared.source.Source.{Source}
 use Rattle.link_wire.specs.{Getting.IsPart}
 use Rattle.link_wire.specs.Inner.{inner_segment, HasInnerSegment, inner_bytes, PassedInner}
 use Rattle.link_wire.specs.Message.{message_at}
-use Rattle.link_wire.specs.Session.{IsSessionAt, GivenMessage}
+use Rattle.link_wire.specs.Session.{IsSessionAt, GivenHead}
 use Rattle.link_wire.specs.declared.session.Phase.TheVariants as phase
 use Rattle.link_wire.specs.declared.session.Session.{Session}
 use Rattle.link_wire.proofs.{Plains.later_head, Sessions.{came, data_given}}
@@ -60,7 +60,7 @@ module _ {R : Type 0} {look : R → Input} (old new : Session R) (history : List
     phase = phase.Reading;
   }
 
-  head_read : GivenMessage look old mid history (length history) (inner_segment id (length content))
+  head_read : GivenHead look old mid history (length history) (inner_segment id (length content))
   head_read =
       came old history at between mid (inner_segment id (length content))
       (record { given = take 18 window; takes = head; live = live; is = rw data_size is.is })

@@ -9,7 +9,7 @@ use Rattle.link_wire.specs.Message.{contact_at, message_at, data_length}
 use Rattle.link_wire.specs.Spelled.{BytesProperty, ContactSpelled, HeadSpelled}
 use Rattle.link_wire.proofs.Sound.{Only, both, only_contact, only_message}
 use Rattle.link_wire.proofs.Complete.{AreBytes-after, found_contact, found_message}
-use Rattle.link_wire.specs.SpelledStream.{NoneBegins, IsStream, IsReadingBy, IsReading}
+use Rattle.link_wire.specs.SpelledStream.{HasNoSpelledPrefix, IsStream, IsReadingBy, IsReadingOf}
 use Rattle.link_wire.specs.Stream.{Entry, End, Clean, Cut, Fault, Stream, ended, with_entry, with_data_of, stream_at, Reading, reading_by, reading_of}
 use Rattle.link_wire.proofs.{Streams.{stream_at-nil, stream_at-head, stream_at-fault}, Wholes.one_message}
 use Rattle.link_wire.specs.Whole.{AreMessages}
@@ -53,14 +53,14 @@ only_by None entries end bytes is =
     ap reading_by is.2.2 ∙ rw (is.0, is.2.1) refl
 
 -- any reading of the bytes is the reading that is defined
-pub only_reading : (bytes : List ℕ) (reading : Reading) → IsReading bytes reading
+pub only_reading : (bytes : List ℕ) (reading : Reading) → IsReadingOf bytes reading
     → reading ≡ reading_of bytes
 only_reading bytes reading is = sym (only_by reading.contact reading.entries reading.end bytes is)
 
 -- if reading a part gives a fault, the bytes begin with no spelling of the part
 none_begins : {A : Type 0} (part : List ℕ → Part A) (value : A) (spelled : BytesProperty)
     (bytes : List ℕ) (fault : WireFault) → Only part value spelled → part bytes ≡ Err fault
-    → NoneBegins spelled bytes
+    → HasNoSpelledPrefix spelled bytes
 none_begins part value spelled bytes fault only is = λ before more spells same.
     let never = sym is ∙ ap part same ∙ only.by before spells more in absurd (cc)
 
@@ -130,7 +130,7 @@ stream_stands (suc count) offset (b ∷ bytes) few are =
     head_stands offset (b ∷ bytes) (omega arith) are (λ at after fewer. stream_stands count at after (omega arith)) (message_at (b ∷ bytes)) refl
 
 reading_by-stands : (bytes : List ℕ) → AreBytes bytes → (read : Result (Contact × List ℕ) WireFault)
-    → contact_at bytes ≡ read → IsReading bytes (reading_by read)
+    → contact_at bytes ≡ read → IsReadingOf bytes (reading_by read)
 reading_by-stands bytes are (Err fault) is =
     (refl, (λ contact. none_begins contact_at contact (ContactSpelled contact) bytes fault (only_contact contact) is), (fault, refl, is))
 reading_by-stands bytes are (Ok (contact, rest)) is =
@@ -145,6 +145,6 @@ reading_by-stands bytes are (Ok (contact, rest)) is =
     }
 
 -- the reading that is defined is a reading of the bytes
-pub a_reading : (bytes : List ℕ) → AreBytes bytes → IsReading bytes (reading_of bytes)
+pub a_reading : (bytes : List ℕ) → AreBytes bytes → IsReadingOf bytes (reading_of bytes)
 unfolding reading_of
 a_reading bytes are = reading_by-stands bytes are (contact_at bytes) refl

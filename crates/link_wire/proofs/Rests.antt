@@ -5,7 +5,7 @@ use Rattle.std.proofs.Math.Seq.{take-append_seam, drop-append_seam, take-append-
 use Rattle.link_wire.specs.Message.{data_length}
 use Rattle.link_wire.specs.Stream.{End, Clean, Cut, Fault, Stream, ended, with_entry, with_data_of, stream_at, Reading, reading_of}
 use Rattle.link_wire.proofs.Streams.{stream_at-nil}
-use Rattle.link_wire.specs.Session.{joined, data_after, rest_after, IsLeft}
+use Rattle.link_wire.specs.Session.{joined, data_after, rest_after, IsSizeOfDataLeft}
 use Rattle.link_wire.specs.declared.message.Message.{Message}
 
 -- one stream followed by another
@@ -49,7 +49,7 @@ module _ (place n offset : ℕ) (message : Message) (content bytes more : List �
       (cases_lt (length more) (suc left))
 
 -- no bytes are left
-rest_none : (place offset left : ℕ) (end : End) → IsLeft offset left end
+rest_none : (place offset left : ℕ) (end : End) → IsSizeOfDataLeft offset left end
     → rest_after place left end [] ≡ ended end
 rest_none place offset left Clean is = stream_at-nil place
 rest_none place offset left (Cut from message content) is =
@@ -58,7 +58,7 @@ rest_none place offset left (Fault from fault) is = absurd is
 
 -- how the reading goes on after a part of the stream has been added to it
 module _ (reading : Reading) (history : List ℕ) (part : Stream) (offset left place : ℕ)
-    (is : IsLeft offset left part.end)
+    (is : IsSizeOfDataLeft offset left part.end)
     (reads : (more : List ℕ) → reading_of (history ++ more) ≡ joined reading (appended part (rest_after place left part.end more))) where
   pub reading_of-joined : reading_of history ≡ joined reading part
   reading_of-joined =
@@ -72,20 +72,20 @@ module _ (reading : Reading) (history : List ℕ) (part : Stream) (offset left p
   goes_on_from more = rw (reading_of-joined, append_assoc) (reads more)
 
 -- if no data is to come, the end is clean
-pub clean_end : (offset left : ℕ) (end : End) → IsLeft offset left end → left ≡ 0 → end ≡ Clean
+pub clean_end : (offset left : ℕ) (end : End) → IsSizeOfDataLeft offset left end → left ≡ 0 → end ≡ Clean
 clean_end offset left Clean is none = refl
 clean_end offset left (Cut from message content) is none = let some = is.0 in absurd (omega arith)
 clean_end offset left (Fault from fault) is none = absurd is
 
 pub begun_left : (size offset : ℕ) (message : Message) → data_length message ≡ size
-    → IsLeft offset size (begun offset message).end
+    → IsSizeOfDataLeft offset size (begun offset message).end
 begun_left zero offset message is = rw is refl
 begun_left (suc size) offset message is =
     rw (is, lt-ltb 0 (suc size) (omega arith)) (omega arith, refl, omega arith)
 
 pub data_left : (offset from : ℕ) (message : Message) (content bytes : List ℕ) (left n : ℕ)
     → from ≡ offset → data_length message ≡ length content + n → n ≡ length bytes + left
-    → IsLeft offset left (data_after left bytes (Cut from message content)).end
+    → IsSizeOfDataLeft offset left (data_after left bytes (Cut from message content)).end
 data_left offset from message content bytes zero n is whole parts = refl
 data_left offset from message content bytes (suc left) n is whole parts =
     rw (lt-ltb 0 (suc left) (omega arith))

@@ -7,11 +7,11 @@ use Rattle.link_wire.specs.Part.{Part, number_at}
 use Rattle.link_wire.specs.Message.{contact_at, message_at, fields_at, data_length}
 use Rattle.link_io.specs.Source.{window_of, at_hand, reach, GivesAtHand, is_fresh, IsSourceAt, IsLive, IsOver, Takes, Readies}
 use Rattle.link_wire.specs.Limits.{window_size}
-use Rattle.link_wire.specs.Getting.{IsEnoughFor, AreNeeded, IsPart, IsFault, GivenPart, ReadsPart, GivenKind}
+use Rattle.link_wire.specs.Getting.{IsEnoughFor, AreNeeded, IsPart, IsFaultShownByLastByte, GivenPart, ReadsPart, GivenKind}
 use Rattle.link_wire.specs.Stream.{Entry, End, Clean, Cut, Fault, Stream, ended, stream_at, Reading, reading_of}
-use Rattle.link_wire.specs.Session.{IsEnough, HasEnoughForNext, joined, data_after, rest_after, IsLeft, IsUndecided, HaveSameMessages, OnlyLastShows, is_unopened, reads_next, may_open, may_read, left_of, HasStopped, IsSessionAt, GivenContact, AfterOpen, GivenMessage, AfterNext, PassedBytes, LoadedData, AfterLoad, AfterData}
+use Rattle.link_wire.specs.Session.{IsEnough, HasEnoughForNext, joined, data_after, rest_after, IsSizeOfDataLeft, IsEndBeforeOrInHead, AreSameUpToEnd, AreNeededToDecide, is_unopened, reads_next, may_open, may_read, left_of, HasStopped, IsSessionAt, GivenContact, AfterOpen, GivenHead, AfterNext, PassedBytes, LoadedData, AfterLoad, AfterData}
 use Rattle.link_io.proofs.Sources.{fresh_at, fresh_live, IsSourceAt-then, Takes-then, Readies-takes, Readies-over, TakesThenStops-then}
-use Rattle.link_wire.proofs.{FieldReads.bytes_at-short, Gettings.{after, IsFault-then, cut_then}, Plains.IsPart-byte}
+use Rattle.link_wire.proofs.{FieldReads.bytes_at-short, Gettings.{after, IsFaultShownByLastByte-then, cut_then}, Plains.IsPart-byte}
 use Rattle.link_wire.proofs.{Shrinks.shrinks_message, Steady.{steady_contact, steady_message, cut_before}}
 use Rattle.link_wire.proofs.Within.{Steady, within_contact, within_message, part_size, needed_size}
 use Rattle.link_wire.proofs.Streams.{stream_at-head, stream_at-fault}
@@ -95,7 +95,7 @@ none_left s reading may = eqb-true s.left 0 (ap (λ p. reads_next p s.left) (sym
 -- ---- the contact header
 
 -- a proper prefix of the bytes that a contact header needs has none, and shows no fault
-contact_shown : (given : List ℕ) → AreNeeded contact_at given → OnlyLastShows [] given
+contact_shown : (given : List ℕ) → AreNeeded contact_at given → AreNeededToDecide [] given
 contact_shown given needs = λ count fewer.
     let read = reading-refused (take count given) wire.Truncated (needs count fewer) in
     rw (read, reading-none) (record { contact = refl; entries = refl }, refl)
@@ -112,7 +112,7 @@ module _ {R : Type 0} {look : R → Input} where
       (part : Stream) (contact : Contact)
       → IsSourceAt s.source history → IsLive look s.source → s.phase ≡ phase.Reading
       → reading.contact ≡ Some contact
-      → (is : IsLeft s.offset s.left part.end)
+      → (is : IsSizeOfDataLeft s.offset s.left part.end)
       → (few : s.left ≡ 0 → length (window_of s.source) < window_size)
       → (reads : (more : List ℕ)
       → reading_of (history ++ more)
@@ -136,7 +136,7 @@ module _ {R : Type 0} {look : R → Input} where
   -- the same after some bytes that add the part; if there are none, no data was to come before
   goes : (old new : Session R) (history given : List ℕ) (part : Stream)
       → IsSessionAt look old history → Takes look old.source new.source given
-      → IsLive look new.source → new.phase ≡ phase.Reading → IsLeft new.offset new.left part.end
+      → IsLive look new.source → new.phase ≡ phase.Reading → IsSizeOfDataLeft new.offset new.left part.end
       → (new.left ≡ 0 → length given ≡ 0 → old.left ≡ 0)
       → ((more : List ℕ) → reading_of (history ++ (given ++ more))
       ≡ joined (reading_of history)
@@ -223,22 +223,22 @@ module _ {R : Type 0} {look : R → Input} where
 
     -- bytes that end inside a head do not change the messages, and more bytes may mend the end
     cut_here : (given : List ℕ) → message_at given ≡ Err wire.Truncated
-        → HaveSameMessages (reading_of history) (reading_of (history ++ given))
-        × IsUndecided (reading_of (history ++ given)).end
+        → AreSameUpToEnd (reading_of history) (reading_of (history ++ given))
+        × IsEndBeforeOrInHead (reading_of (history ++ given)).end
     cut_here [] is = rw append-nil (record { contact = refl; entries = refl }, rw clean tt)
     cut_here (kind ∷ given) is =
         rw (fault_here kind given wire.Truncated is)
         (record { contact = refl; entries = append-nil (reading_of history).entries }, refl)
 
     -- a proper prefix of the bytes that a head needs makes no message, and shows no fault
-    head_shown : (given : List ℕ) → AreNeeded message_at given → OnlyLastShows history given
+    head_shown : (given : List ℕ) → AreNeeded message_at given → AreNeededToDecide history given
     head_shown given needs = λ count fewer. cut_here (take count given) (needs count fewer)
 
     -- the head of a message was read
     pub came : (new : Session R) (message : Message)
         → GivenPart look message_at old.source new.source message → new.offset ≡ length history
         → new.left ≡ data_length message → new.phase ≡ phase.Reading
-        → GivenMessage look old new history (length history) message
+        → GivenHead look old new history (length history) message
     came new message got offset left going =
         let given = got.given in
         let here = length history in
@@ -317,7 +317,7 @@ module _ {R : Type 0} {look : R → Input} where
       pub message_came : (new : Session R) (message : Message)
           → ReadsPart look (fields_at kind) mid new.source (Ok message) → new.offset ≡ length history
           → new.left ≡ data_length message → new.phase ≡ phase.Reading
-          → GivenMessage look old new history (length history) message
+          → GivenHead look old new history (length history) message
       unfolding message_at
       message_came new message fields offset left going =
           let whole : ReadsPart look message_at old.source new.source (Ok message) = after _ typed fields in
@@ -330,7 +330,7 @@ module _ {R : Type 0} {look : R → Input} where
       unfolding message_at
       next_refused new (halt.Wire fault) met stopped =
           let given = met.by.given in
-          let is : IsFault message_at (kind ∷ given) fault = IsFault-then (number_at 1) (λ v. fields_at v.0 v.1) kind (kind ∷ []) given (IsPart-byte kind) fault met.by.is in
+          let is : IsFaultShownByLastByte message_at (kind ∷ given) fault = IsFaultShownByLastByte-then (number_at 1) (λ v. fields_at v.0 v.1) kind (kind ∷ []) given (IsPart-byte kind) fault met.by.is in
           record {
             given = kind ∷ given;
             takes = Takes-then look old.source mid new.source (kind ∷ []) given first.takes met.by.takes;
@@ -371,9 +371,9 @@ module _ {R : Type 0} {look : R → Input} where
       (takes : Takes look old.source new.source bytes)
       (live : IsLive look new.source) (going : new.phase ≡ phase.Reading) (offset : new.offset ≡ old.offset) (left : old.left ≡ length bytes + new.left) where
     -- the rest of the stream is the data, and then what is read after it
-    read_by : (end : End) → IsLeft old.offset old.left end
+    read_by : (end : End) → IsSizeOfDataLeft old.offset old.left end
         → (let part = data_after new.left bytes end in
-        IsLeft new.offset new.left part.end
+        IsSizeOfDataLeft new.offset new.left part.end
         × ((more : List ℕ) → rest_after (length history) old.left end (bytes ++ more)
         ≡ appended part (rest_after (length history + length bytes) new.left part.end more)))
     read_by Clean is =
@@ -397,7 +397,7 @@ module _ {R : Type 0} {look : R → Input} where
         record { takes = takes; left = left; reading = stood.0; at = stood.1 }
 
 -- inside a segment, the reading ends in its data
-is_cut : (offset left : ℕ) (end : End) → IsLeft offset left end → 0 < left
+is_cut : (offset left : ℕ) (end : End) → IsSizeOfDataLeft offset left end → 0 < left
     → (message : Message) × (content : List ℕ) × (end ≡ Cut offset message content)
 is_cut offset left Clean is some = absurd (omega (arith, is, some))
 is_cut offset left (Cut from message content) is some =

@@ -4,7 +4,7 @@ use Rattle.std.proofs.lemmas.{Bool.{le-ltb, eqb-true, cond_both}, Bool.Decides.n
 use Rattle.std.proofs.Math.Seq.{take-add, take-append_seam, drop-append_seam}
 use Rattle.link_wire.specs.{Codes.{xfer_ack, xfer_refuse, keepalive, msg_reject}, Getting.IsPart}
 use Rattle.link_wire.specs.{Message.{message_at, data_length}, Stream.{Entry, stream_at}}
-use Rattle.link_wire.specs.Whole.{followed, AreMessages, is_quiet, IsQuiet, AreQuiet, quiet_size, IsQuietHead}
+use Rattle.link_wire.specs.Whole.{followed, AreMessages, is_quiet, IsQuiet, AreQuietMessages, quiet_size, HasQuietMessageFirst}
 use Rattle.link_wire.proofs.Plains.{ack_head, refuse_head, keepalive_head, msg_reject_head}
 use Rattle.link_wire.proofs.Streams.{stream_at-head}
 use Rattle.link_wire.specs.declared.message.Message.{Message}
@@ -49,8 +49,8 @@ module _ (offset : ℕ) (head content : List ℕ) (message : Message)
 -- ---- quiet messages
 
 -- quiet messages, and then another one
-quiet_more : (offset at size : ℕ) (window : List ℕ) → AreQuiet offset (take at window)
-    → IsQuietHead (drop at window) size → AreQuiet offset (take (at + size) window)
+quiet_more : (offset at size : ℕ) (window : List ℕ) → AreQuietMessages offset (take at window)
+    → HasQuietMessageFirst (drop at window) size → AreQuietMessages offset (take (at + size) window)
 quiet_more offset at size window so_far head =
     let first = take at window in
     let last = take size (drop at window) in
@@ -65,7 +65,7 @@ quiet_more offset at size window so_far head =
 
 module _ (window : List ℕ) (size : ℕ) (within : size ≤ length window) where
   quiet_part : (message : Message) → IsPart message_at (take size window) message
-      → is_quiet message ≡ true → data_length message ≡ 0 → IsQuietHead window size
+      → is_quiet message ≡ true → data_length message ≡ 0 → HasQuietMessageFirst window size
   quiet_part message is quiet none = record {
     message = message;
     quiet = quiet;
@@ -77,10 +77,10 @@ module _ (window : List ℕ) (size : ℕ) (within : size ≤ length window) wher
 -- If a quiet message with the first byte as its type would end in the window, it lies there.
 quiet_by_kind : (window : List ℕ) → length window < 2 ^ 63
     → quiet_size (slice_index window 0) ≤ length window
-    → IsQuietHead window (quiet_size (slice_index window 0))
+    → HasQuietMessageFirst window (quiet_size (slice_index window 0))
 quiet_by_kind window slice =
     let kind = slice_index window 0 in
-    let P : ℕ → Type 0 = λ size. size ≤ length window → IsQuietHead window size in
+    let P : ℕ → Type 0 = λ size. size ≤ length window → HasQuietMessageFirst window size in
     cond_both (kind == xfer_ack) 18 _ P
     (λ ack within. quiet_part window 18 within _
     (ack_head window within (eqb-true kind 2 ack)) refl refl)
@@ -102,7 +102,7 @@ quiet_size-bounds kind = (grind (arith, nat_tests), grind (arith, nat_tests))
 -- the first `count` bytes of the window are quiet messages
 pub record BeginQuiet (window : List ℕ) (count : ℕ) : Type 0 where
   pub within : count ≤ length window
-  pub quiet : (offset : ℕ) → AreQuiet offset (take count window)
+  pub quiet : (offset : ℕ) → AreQuietMessages offset (take count window)
 
 -- quiet messages, and then another one of the size that the next byte has as a type
 pub begin_more : (window : List ℕ) (at size : ℕ) → length window < 2 ^ 63
@@ -110,11 +110,11 @@ pub begin_more : (window : List ℕ) (at size : ℕ) → length window < 2 ^ 63
     → BeginQuiet window (at + size)
 begin_more window at size slice is begun within =
     let rest = drop at window in
-    let P : ℕ → Type 0 = λ size. size ≤ length rest → IsQuietHead rest size in
+    let P : ℕ → Type 0 = λ size. size ≤ length rest → HasQuietMessageFirst rest size in
     let kind : slice_index rest 0 ≡ slice_index window at =
     get_or-drop at window 0 0 ∙ ap (λ index. slice_index window index) (add-zero at) in
     let long = length-drop at window in
-    let head : IsQuietHead rest size =
+    let head : HasQuietMessageFirst rest size =
     subst P (ap quiet_size kind ∙ sym is) (quiet_by_kind rest (omega (arith, slice, long)))
     (omega (arith, within, long)) in
     record {

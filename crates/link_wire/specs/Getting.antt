@@ -1,5 +1,5 @@
--- Relations, but for MayFollow, IsEnoughFor: a part that is read from a source, compared with its
--- definition over lists.
+-- Relations, but for IfTruncatedNothingFollows, IsEnoughFor: a part that is read from a source,
+-- compared with its definition over lists.
 use Rattle.std.specs.Prelude.{◌≡◌, ℕ, ◌<◌, List, [], ◌∷◌, ◌++◌, length, take, Option, Some, None, Result, Ok, Err}
 use Rattle.link_io.specs.Device.{Input}
 use Rattle.link_wire.specs.Part.{Part}
@@ -12,8 +12,8 @@ use Rattle.link_io.specs.declared.source.Source.{Source}
 
 -- what may follow bytes that show a fault: nothing after a missing field, anything after other
 -- faults
-abbrev pub MayFollow : WireFault → List ℕ → Type 0
-MayFollow fault more = fault ≡ Truncated → more ≡ []
+abbrev pub IfTruncatedNothingFollows : WireFault → List ℕ → Type 0
+IfTruncatedNothingFollows fault more = fault ≡ Truncated → more ≡ []
 
 -- These bytes are enough for this part: no field of it is missing, or it shows a fault.
 abbrev pub IsEnoughFor : {A : Type 0} → (List ℕ → Part A) → List ℕ → Type 0
@@ -25,18 +25,21 @@ module _ {A : Type 0} where
   AreNeeded part bytes = (count : ℕ) → count < length bytes
       → part (take count bytes) ≡ Err Truncated
 
-  -- these bytes are the part with this value, whatever follows them
+  -- These bytes are the part with this value, whatever follows them, and all of them are needed.
   pub record IsPart (part : List ℕ → Part A) (bytes : List ℕ) (value : A) : Type 0 where
     pub is_part : (more : List ℕ) → part (bytes ++ more) ≡ Ok (value, more)
     pub needs : AreNeeded part bytes
 
-  -- these bytes show the fault, and their last byte is the first that shows it
-  pub record IsFault (part : List ℕ → Part A) (bytes : List ℕ) (fault : WireFault) : Type 0 where
-    pub is_fault : (more : List ℕ) → MayFollow fault more → part (bytes ++ more) ≡ Err fault
+  -- These bytes show the fault, whatever may follow them (`IfTruncatedNothingFollows`). Their last
+  -- byte is the first that shows it.
+  pub record IsFaultShownByLastByte (part : List ℕ → Part A) (bytes : List ℕ) (fault : WireFault)
+      : Type 0 where
+    pub is_fault : (more : List ℕ) → IfTruncatedNothingFollows fault more
+        → part (bytes ++ more) ≡ Err fault
     pub needs : AreNeeded part bytes
 
 module _ {R A : Type 0} where
-  -- the bytes given are the part
+  -- the given bytes are the part
   pub record GivenPart (look : R → Input) (part : List ℕ → Part A) (old new : Source R)
       (value : A) : Type 0 where
     pub given : List ℕ
@@ -44,16 +47,16 @@ module _ {R A : Type 0} where
     pub live : IsLive look new
     pub is : IsPart part given value
 
-  -- The bytes given show the fault. If the fault is `Truncated`, a field is cut short or missing,
+  -- The given bytes show the fault. If the fault is `Truncated`, a field is cut short or missing,
   -- and the input is over.
   pub record MetFault (look : R → Input) (part : List ℕ → Part A) (old new : Source R)
       (fault : WireFault) : Type 0 where
     pub given : List ℕ
     pub takes : Takes look old new given
-    pub is : IsFault part given fault
+    pub is : IsFaultShownByLastByte part given fault
     pub over : fault ≡ Truncated → IsOver look new
 
-  -- the source stopped inside the part
+  -- the source stopped before the part was whole
   pub record MetStop (look : R → Input) (part : List ℕ → Part A) (old new : Source R)
       (fault : IoFault) : Type 0 where
     pub given : List ℕ

@@ -64,16 +64,18 @@ pub record ItemsEndAt (bytes : List ℕ) (end : ℕ) (part : Part (ArrayVec Item
 
 -- the result of reading the items of a list: the offset at which they end, which is `end`, or their
 -- fault
-abbrev pub LocatesEnd : List ℕ → (end : ℕ) → Part (ArrayVec Item) → Result ℕ WireFault → Type 0
-LocatesEnd bytes end part (Ok next) = ItemsEndAt bytes end part next
-LocatesEnd bytes end part (Err fault) = part ≡ Err fault
+abbrev pub LocatesItemsEnd : List ℕ → (end : ℕ) → Part (ArrayVec Item) → Result ℕ WireFault → Type 0
+LocatesItemsEnd bytes end part (Ok next) = ItemsEndAt bytes end part next
+LocatesItemsEnd bytes end part (Err fault) = part ≡ Err fault
 
--- these items are read from the span, which comes after a list's length, and end at `next`
+-- Reading a list's items at the span yields these items, and ends at the offset `next`. The span
+-- does not include the list's length.
 pub record ItemsLieAt (owner : ListOf) (bytes : List ℕ) (span : Span) (items : ArrayVec Item)
     (next : ℕ) : Type 0 where
   pub reads : items_of owner span.length (drop span.offset bytes) ≡ Ok (items, drop next bytes)
 
--- the part is these items, which lie at the span
+-- The part is some items, and then the bytes from the offset `next` on. The items lie at the span,
+-- which ends at `next`.
 pub record ListLies (owner : ListOf) (bytes : List ℕ) (part : Part (ArrayVec Item)) (span : Span)
     (next : ℕ) : Type 0 where
   pub items : ArrayVec Item
@@ -101,12 +103,14 @@ MessageItemsLie (fields.SessInit interval segment_mru transfer_mru) bytes span i
 MessageItemsLie (fields.Segment flags id size) bytes span items = SegmentItemsLie flags bytes span items
 MessageItemsLie _ bytes span items = Unit {0}
 
--- in a SESS_INIT, the items begin four bytes after the node ID, and end where the message ends
-pub record SessionSpansFit (node items : Span) (end : ℕ) : Type 0 where
+-- In a SESS_INIT, the four bytes of the list's length lie between the node ID and the items. The
+-- items end where the message ends.
+pub record SessInitSpansFit (node items : Span) (end : ℕ) : Type 0 where
   pub node_ends : node.offset + node.length + 4 ≡ items.offset
   pub items_end : items.offset + items.length ≡ end
 
--- in a segment with START, the head ends eight bytes after the items
+-- In a segment with START, the head ends after the items and the eight bytes of the data's length.
+-- Without START, the span of the items is empty and at offset 0.
 pub record SegmentSpansFit (flags : ℕ) (items : Span) (end : ℕ) : Type 0 where
   pub with_start : is_start flags ≡ true → items.offset + items.length + 8 ≡ end
   pub without_start : is_start flags ≡ false → items ≡ record { offset = 0; length = 0 }
@@ -115,7 +119,7 @@ pub record SegmentSpansFit (flags : ℕ) (items : Span) (end : ℕ) : Type 0 whe
 -- SESS_INIT and a segment have any.
 abbrev pub SpansFit : Fields → (node items : Span) → (end : ℕ) → Type 0
 SpansFit (fields.SessInit interval segment_mru transfer_mru) node items end =
-    SessionSpansFit node items end
+    SessInitSpansFit node items end
 SpansFit (fields.Segment flags id size) node items end = SegmentSpansFit flags items end
 SpansFit _ node items end = Unit {0}
 
@@ -131,7 +135,7 @@ pub record MessageLies (bytes : List ℕ) (part : Part Message) (found : Message
   pub spans : SpansFit found.fields found.node found.items found.end
   pub within : found.end ≤ length bytes
 
--- the part is the message that lies there, or the fault
-abbrev pub LocatesMessage : List ℕ → Part Message → Result MessageAt WireFault → Type 0
-LocatesMessage bytes part (Ok found) = MessageLies bytes part found
-LocatesMessage bytes part (Err fault) = part ≡ Err fault
+-- the result of reading a message as this part: where it lies, or its fault
+abbrev pub LocatesMessageInSlice : List ℕ → Part Message → Result MessageAt WireFault → Type 0
+LocatesMessageInSlice bytes part (Ok found) = MessageLies bytes part found
+LocatesMessageInSlice bytes part (Err fault) = part ≡ Err fault

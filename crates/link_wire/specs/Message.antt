@@ -63,13 +63,14 @@ total_at owner kind size bytes =
       Ok (None, bytes))
 
 -- If an item of a transfer's list has the type and the size of a Transfer Length item, the total in
--- its value was kept. `TotalFits` holds of every other item.
-abbrev pub TotalFits : Item → Type 0
-TotalFits item = item.kind ≡ transfer_length → item.length ≡ total_size → IsSome item.total
+-- its value was kept. `HasTotalIfLengthItem` holds of every other item.
+abbrev pub HasTotalIfLengthItem : Item → Type 0
+HasTotalIfLengthItem item = item.kind ≡ transfer_length → item.length ≡ total_size
+    → IsSome item.total
 
--- `TotalFits` holds of each item of a transfer's list
-abbrev pub TotalsFit : List Item → Type 0
-TotalsFit items = All TotalFits items
+-- `HasTotalIfLengthItem` holds of each item of a transfer's list
+abbrev pub HaveTotalsIfLengthItems : List Item → Type 0
+HaveTotalsIfLengthItems items = All HasTotalIfLengthItem items
 
 -- The head of the next extension item (section 4.8): its flags, type and length. The list has
 -- `left` more bytes, and the item has to end within them.
@@ -86,8 +87,8 @@ item_head_at left bytes =
           else Ok (record { flags = flags; kind = kind; length = size }, bytes))
 
 -- The items of a list that has `left` more bytes; at most `room` more items may come. They have to
--- fill these bytes exactly. If the list goes on without room, a fault of the next item's head comes
--- before `TooManyItems`.
+-- fill these bytes exactly. If bytes are left and no more items may come, the head of the next item
+-- is read first. So a fault of that head comes before `TooManyItems`.
 unfoldable pub items_at : ListOf → ℕ → ℕ → List ℕ → Part (List Item)
 items_at owner zero left bytes =
     if left == 0

@@ -2,7 +2,7 @@
 use Rattle.std.specs.Prelude.{ℕ, [], if◌then◌else◌}
 use Rattle.arrayvec.specs.ArrayVec.{ArrayVec}
 use Rattle.link_wire.specs.Codes.{is_start}
-use Rattle.link_wire.specs.Message.{TotalsFit}
+use Rattle.link_wire.specs.Message.{HaveTotalsIfLengthItems}
 use Rattle.link_wire.specs.declared.message.{Item.Item, Fields.Fields}
 use Rattle.link_wire.specs.declared.message.Fields.TheVariants as fields
 use Rattle.link_wire.specs.declared.message.Message.{Message}
@@ -29,12 +29,13 @@ message_with (fields.MsgReject reason header) node items = MsgReject reason head
 abbrev pub message_of : MessageBuffer → Message
 message_of buffer = message_with buffer.fields buffer.node buffer.items
 
--- If the message is a segment, the totals in the items of the buffer were kept (`TotalsFit`). This
--- holds without START too, where the segment shows no items.
-abbrev pub SegmentTotalsFitBy : Fields → ArrayVec Item → Type 0
-SegmentTotalsFitBy (fields.Segment flags id size) items = TotalsFit items.items
-SegmentTotalsFitBy _ items = Unit {0}
+-- If the message is a segment, `HaveTotalsIfLengthItems` holds of the items in the buffer. This
+-- includes a segment without START, which shows no items.
+abbrev pub IfSegmentItemsHaveTotalsBy : Fields → ArrayVec Item → Type 0
+IfSegmentItemsHaveTotalsBy (fields.Segment flags id size) items =
+    HaveTotalsIfLengthItems items.items
+IfSegmentItemsHaveTotalsBy _ items = Unit {0}
 
--- `SegmentTotalsFitBy` for the fields and items of a buffer
-abbrev pub SegmentTotalsFit : MessageBuffer → Type 0
-SegmentTotalsFit buffer = SegmentTotalsFitBy buffer.fields buffer.items
+-- `IfSegmentItemsHaveTotalsBy` for the fields and items of a buffer
+abbrev pub IfSegmentItemsHaveTotals : MessageBuffer → Type 0
+IfSegmentItemsHaveTotals buffer = IfSegmentItemsHaveTotalsBy buffer.fields buffer.items

@@ -7,7 +7,7 @@ use Rattle.link_wire.specs.MessageBuffer.{message_with}
 use Rattle.link_wire.specs.declared.message.Fields.{Fields}
 
 -- The first `size` bytes of the window are the head of a message with these numbers and no items.
--- The message has no node ID either: `message_with` makes the same of it for every `node`.
+-- The message has no node ID either, so `is` holds with every `node`.
 pub record HasPlainHead (window : List ℕ) (fields : Fields) (size : ℕ) : Type 0 where
   pub some : 0 < size
   pub within : size ≤ length window

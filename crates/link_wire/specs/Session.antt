@@ -1,10 +1,10 @@
 -- The state of a session in the reading of the bytes that it was given.
 use Rattle.std.specs.Prelude.{◌≡◌, ℕ, zero, suc, ◌+◌, ◌<◌, ◌≤◌, Bool, true, false, ◌&&◌, ◌==◌, List, [], ◌++◌, length, take, drop, Option, Some, None, Result, Ok, Err, nat_lt, if◌then◌else◌, IfOk, IfErr, IfSome, IsTrue}
 use Rattle.link_io.specs.Device.{Input}
-use Rattle.link_wire.specs.Getting.{MayFollow, IsEnoughFor}
+use Rattle.link_wire.specs.Getting.{IfTruncatedNothingFollows, IsEnoughFor}
 use Rattle.link_wire.specs.Limits.{longest_head, window_size}
 use Rattle.link_wire.specs.Message.{data_length, contact_at, message_at}
-use Rattle.link_wire.specs.MessageBuffer.{message_of, SegmentTotalsFit}
+use Rattle.link_wire.specs.MessageBuffer.{message_of, IfSegmentItemsHaveTotals}
 use Rattle.link_io.specs.Source.{IsSourceAt, IsLive, IsOver, HasEnded, Takes, Readies, TakesThenStops, is_fresh, window_of, at_hand, front_of}
 use Rattle.link_wire.specs.Stream.{End, Clean, Cut, Fault, Stream, ended, with_entry, stream_at, Reading, reading_of}
 use Rattle.link_io.specs.declared.fault.IoFault.{IoFault}
@@ -24,18 +24,18 @@ abbrev pub joined : Reading → Stream → Reading
 joined reading rest =
     record { contact = reading.contact; entries = reading.entries ++ rest.entries; end = rest.end }
 
--- The reading after the head of one more message. If this has no data, it is whole. Otherwise the
--- reading ends inside its data.
+-- The reading after the head of one more message. A message without data is then whole. If the
+-- message has data, the reading ends before the first byte of that data.
 abbrev pub with_message : ℕ → Message → Reading → Reading
 with_message offset message reading =
     joined reading (if nat_lt 0 (data_length message)
     then ended (Cut offset message [])
     else with_entry (record { offset = offset; message = message; content = [] }) (ended Clean))
 
--- What takes the place of the end of a reading, after `bytes` of the open segment's data were read,
--- too. After them, `left` bytes of its data are to come. If `left` is 0, the segment is whole, and
--- the reading ends between two messages. Only at the end `Cut` a segment is open, so the other two
--- ends stay as they are.
+-- The stream that replaces the end of a reading when `bytes` are read, too. These are the next data
+-- of the open segment, and `left` more bytes of its data are to come. If `left` is 0, the segment
+-- is whole, and the reading ends between two messages. A segment is open only at the end `Cut`, so
+-- the other two ends stay as they are.
 abbrev pub data_after : ℕ → List ℕ → End → Stream
 data_after left bytes Clean = ended Clean
 data_after left bytes (Cut offset message content) =
@@ -45,14 +45,15 @@ data_after left bytes (Cut offset message content) =
     (ended Clean)
 data_after left bytes (Fault offset fault) = ended (Fault offset fault)
 
--- the reading after the next bytes, which are data of the open segment; after them, `left` bytes of
--- its data are to come
+-- The reading when `bytes` are read, too. These are the next data of the open segment, and `left`
+-- more bytes of its data are to come.
 abbrev pub with_data : ℕ → List ℕ → Reading → Reading
 with_data left bytes reading = joined reading (data_after left bytes reading.end)
 
--- The stream that is read from the bytes after those given, from the offset `next` on. Between two
--- messages, it is messages. Inside a segment, it is the last `left` bytes of the segment's data,
--- and then messages. After a fault, nothing more is read.
+-- The stream that is read from `bytes`, which follow the bytes given and begin at the offset
+-- `next`. Between two messages, it is messages. Inside a segment, it is the missing `left` bytes of
+-- the segment's data, and then messages. If there are fewer bytes, the stream ends inside the data.
+-- After a fault, nothing more is read.
 abbrev pub rest_after : ℕ → ℕ → End → List ℕ → Stream
 rest_after next left Clean bytes = stream_at next bytes
 rest_after next left (Cut offset message content) bytes =
@@ -65,20 +66,22 @@ rest_after next left (Cut offset message content) bytes =
     }) (stream_at (next + left) (drop left bytes))
 rest_after next left (Fault offset fault) bytes = ended (Fault offset fault)
 
--- `left` bytes of data are to come after a reading with this end: none between two messages, and
--- inside the segment at `offset` the rest of its data. It never holds after a fault.
-abbrev pub IsLeft : ℕ → ℕ → End → Type 0
-IsLeft offset left Clean = left ≡ 0
-IsLeft offset left (Cut from message content) =
-    (0 < left) × (from ≡ offset) × (data_length message ≡ length content + left)
-IsLeft offset left (Fault from fault) = ⊥
+-- `left` bytes of data are to come after a reading with this end. Between two messages, `left` is
+-- 0. Inside a segment, the segment is at `offset`, and `left` is the length of the rest of its
+-- data. After a fault, this never holds.
+abbrev pub IsSizeOfDataLeft : ℕ → ℕ → End → Type 0
+IsSizeOfDataLeft offset left Clean = left ≡ 0
+IsSizeOfDataLeft offset left (Cut at message content) =
+    (0 < left) × (at ≡ offset) × (data_length message ≡ length content + left)
+IsSizeOfDataLeft offset left (Fault at fault) = ⊥
 
--- The reading ends between two messages, or a field of the contact header or of a head is missing.
--- More bytes may mend a missing field.
-abbrev pub IsUndecided : End → Type 0
-IsUndecided Clean = Unit {0}
-IsUndecided (Cut offset message content) = ⊥
-IsUndecided (Fault offset fault) = fault ≡ wire.Truncated
+-- The reading ends between two messages, or inside the contact header or the head of a message,
+-- where a field is missing. More bytes may mend a missing field. The relation does not hold if the
+-- reading ends inside the data of a segment.
+abbrev pub IsEndBeforeOrInHead : End → Type 0
+IsEndBeforeOrInHead Clean = Unit {0}
+IsEndBeforeOrInHead (Cut offset message content) = ⊥
+IsEndBeforeOrInHead (Fault offset fault) = fault ≡ wire.Truncated
 
 -- These bytes are enough for what comes next. If `left` bytes of data are to come, one of them
 -- comes next. Otherwise the head of a message does.
@@ -87,16 +90,16 @@ IsEnough zero bytes = IsEnoughFor message_at bytes
 IsEnough (suc left) bytes = 0 < length bytes
 
 -- both readings have the same contact header and messages
-pub record HaveSameMessages (first second : Reading) : Type 0 where
+pub record AreSameUpToEnd (first second : Reading) : Type 0 where
   pub contact : second.contact ≡ first.contact
   pub entries : second.entries ≡ first.entries
 
 -- After the history, a proper prefix of the bytes makes no message, and shows no fault.
-abbrev pub OnlyLastShows : (history bytes : List ℕ) → Type 0
-OnlyLastShows history bytes =
+abbrev pub AreNeededToDecide : (history bytes : List ℕ) → Type 0
+AreNeededToDecide history bytes =
     (count : ℕ) → count < length bytes
-    → HaveSameMessages (reading_of history) (reading_of (history ++ take count bytes))
-    × IsUndecided (reading_of (history ++ take count bytes)).end
+    → AreSameUpToEnd (reading_of history) (reading_of (history ++ take count bytes))
+    × IsEndBeforeOrInHead (reading_of (history ++ take count bytes)).end
 
 -- `open` was not called
 abbrev pub is_unopened : Phase → Bool
@@ -125,7 +128,8 @@ module _ {R : Type 0} where
   abbrev pub left_of : Session R → ℕ
   left_of session = session.left
 
-  -- The contact header may be read: it is read once, before all else.
+  -- The contact header may be read: `open` was not called, no data is to come, and the source has
+  -- taken nothing.
   abbrev pub may_open : Session R → Bool
   may_open session = is_unopened session.phase && (session.left == 0 && is_fresh session.source)
 
@@ -151,15 +155,16 @@ module _ {R : Type 0} where
   abbrev pub data_in : (R → Input) → Session R → List ℕ
   data_in look session = take session.left (front_of look session.source)
 
-  -- The session was given exactly these bytes, and met no fault. It is at the end of their reading:
-  -- whatever bytes follow, they are read from there. If no data is to come, the window is not full.
+  -- The session was given exactly these bytes, which begin with a whole contact header, and it met
+  -- no fault. It is at the end of their reading, and reads whatever bytes follow from there. If no
+  -- data is to come, the window is not full.
   pub record IsSessionAt (look : R → Input) (session : Session R) (history : List ℕ) : Type 0 where
     pub at : IsSourceAt session.source history
     pub live : IsLive look session.source
     pub going : session.phase ≡ phase.Reading
     pub contact : Contact
     pub has_contact : (reading_of history).contact ≡ Some contact
-    pub left : IsLeft session.offset session.left (reading_of history).end
+    pub left : IsSizeOfDataLeft session.offset session.left (reading_of history).end
     pub few : session.left ≡ 0 → length (window_of session.source) < window_size
     pub goes_on : (more : List ℕ)
         → reading_of (history ++ more)
@@ -174,14 +179,17 @@ module _ {R : Type 0} where
   abbrev pub HasEnoughForNext : (R → Input) → Session R → Type 0
   HasEnoughForNext look session = IsEnough session.left (at_hand look session.source)
 
-  -- The whole input is read as `reading`: so are these bytes, with any bytes that may follow them
-  -- (`MayFollow`). If the fault is a missing field, no byte of the input is left.
+  -- These bytes are read as `reading`, alone and with any bytes that may follow
+  -- (`IfTruncatedNothingFollows`). If the fault is a missing field, no byte of the input is left.
+  -- So the whole input is read as `reading`.
   pub record HasMetFault (look : R → Input) (source : Source R) (history : List ℕ) (fault : WireFault)
       (reading : Reading) : Type 0 where
     pub over : fault ≡ wire.Truncated → IsOver look source
-    pub all : (more : List ℕ) → MayFollow fault more → reading_of (history ++ more) ≡ reading
+    pub all : (more : List ℕ) → IfTruncatedNothingFollows fault more
+        → reading_of (history ++ more) ≡ reading
 
--- the result, with the message that the call wrote into its caller's buffer beside the offset
+-- The result of a call that reads a message, with the message beside its offset. The call itself
+-- wrote the message into its caller's buffer.
 abbrev pub with_message_read : Message → Result (Option ℕ) Stop → Result (Option (ℕ × Message)) Stop
 with_message_read message (Ok None) = Ok None
 with_message_read message (Ok (Some offset)) = Ok (Some (offset, message))
@@ -197,11 +205,12 @@ module _ {R : Type 0} where
     pub takes : Takes look old.source new.source given
     pub reading : reading_of given ≡ record { contact = Some contact; entries = []; end = Clean }
     pub size : length given ≡ 6
-    pub shown_last : OnlyLastShows [] given
+    pub shown_last : AreNeededToDecide [] given
     pub at : IsSessionAt look new given
     pub between : left_of new ≡ 0
 
-  -- the contact header has a fault
+  -- The contact header has a fault. Of its six bytes, none is given after the one that shows the
+  -- fault.
   pub record RefusedContact (look : R → Input) (old new : Session R) (offset : ℕ)
       (fault : WireFault) : Type 0 where
     pub given : List ℕ
@@ -210,16 +219,17 @@ module _ {R : Type 0} where
     pub offset_is : offset ≡ 0
     pub is_read : HasMetFault look new.source given fault
         (record { contact = None; entries = []; end = Fault 0 fault })
-    pub shown_last : OnlyLastShows [] given
+    pub shown_last : AreNeededToDecide [] given
     pub stopped : HasStopped new (stop.Wire offset fault)
 
-  -- a device failed inside the contact header, or the input passed its limit there
-  pub record StoppedContact (look : R → Input) (old new : Session R)
+  -- A device failed before the end of the contact header, or the input passed its limit there. The
+  -- given bytes are too few for a contact header. They show no fault except that they are too few.
+  pub record FailedContact (look : R → Input) (old new : Session R)
       (fault : IoFault) : Type 0 where
     pub given : List ℕ
     pub stops : TakesThenStops look old.source new.source given fault
     pub size : length given < 6
-    pub shown_last : OnlyLastShows [] given
+    pub shown_last : AreNeededToDecide [] given
     pub reading : reading_of given
         ≡ record { contact = None; entries = []; end = Fault 0 wire.Truncated }
     pub stopped : HasStopped new (stop.Io fault)
@@ -229,10 +239,10 @@ module _ {R : Type 0} where
   AfterOpen look old new (Ok contact) = GivenContact look old new contact
   AfterOpen look old new (Err (stop.Wire offset fault)) =
       RefusedContact look old new offset fault
-  AfterOpen look old new (Err (stop.Io fault)) = StoppedContact look old new fault
+  AfterOpen look old new (Err (stop.Io fault)) = FailedContact look old new fault
 
   -- the head of a message was read
-  pub record GivenMessage (look : R → Input) (old new : Session R) (history : List ℕ) (offset : ℕ)
+  pub record GivenHead (look : R → Input) (old new : Session R) (history : List ℕ) (offset : ℕ)
       (message : Message) : Type 0 where
     pub given : List ℕ
     pub takes : Takes look old.source new.source given
@@ -240,7 +250,7 @@ module _ {R : Type 0} where
     pub size : length given ≤ longest_head
     pub offset_is : offset ≡ length history
     pub left : left_of new ≡ data_length message
-    pub shown_last : OnlyLastShows history given
+    pub shown_last : AreNeededToDecide history given
     pub reading : reading_of (history ++ given) ≡ with_message offset message (reading_of history)
     pub at : IsSessionAt look new (history ++ given)
 
@@ -251,7 +261,8 @@ module _ {R : Type 0} where
     pub clean : (reading_of history).end ≡ Clean
     pub at : IsSessionAt look new history
 
-  -- the first fault, in the message after the history; no byte is given after the one that shows it
+  -- The message after the history has the first fault. At most `longest_head` bytes of the message
+  -- are given, and none after the one that shows the fault.
   pub record RefusedMessage (look : R → Input) (old new : Session R) (history : List ℕ) (offset : ℕ)
       (fault : WireFault) : Type 0 where
     pub given : List ℕ
@@ -260,19 +271,19 @@ module _ {R : Type 0} where
     pub offset_is : offset ≡ length history
     pub is_read : HasMetFault look new.source (history ++ given) fault
         (joined (reading_of history) (ended (Fault offset fault)))
-    pub shown_last : OnlyLastShows history given
+    pub shown_last : AreNeededToDecide history given
     pub stopped : HasStopped new (stop.Wire offset fault)
 
   -- A failure before or inside a message. The bytes given of that message make no message, and show
   -- no fault.
-  pub record StoppedMessage (look : R → Input) (old new : Session R) (history : List ℕ)
+  pub record FailedMessage (look : R → Input) (old new : Session R) (history : List ℕ)
       (fault : IoFault) : Type 0 where
     pub given : List ℕ
     pub stops : TakesThenStops look old.source new.source given fault
     pub size : length given < longest_head
-    pub shown_last : OnlyLastShows history given
-    pub same : HaveSameMessages (reading_of history) (reading_of (history ++ given))
-    pub undecided : IsUndecided (reading_of (history ++ given)).end
+    pub shown_last : AreNeededToDecide history given
+    pub same : AreSameUpToEnd (reading_of history) (reading_of (history ++ given))
+    pub undecided : IsEndBeforeOrInHead (reading_of (history ++ given)).end
     pub stopped : HasStopped new (stop.Io fault)
 
   -- what holds after a call that reads the next message, by its result
@@ -280,10 +291,10 @@ module _ {R : Type 0} where
       → Result (Option (ℕ × Message)) Stop → Type 0
   AfterNext look old new history (Ok None) = ReachedEnd look old new history
   AfterNext look old new history (Ok (Some (offset, message))) =
-      GivenMessage look old new history offset message
+      GivenHead look old new history offset message
   AfterNext look old new history (Err (stop.Wire offset fault)) =
       RefusedMessage look old new history offset fault
-  AfterNext look old new history (Err (stop.Io fault)) = StoppedMessage look old new history fault
+  AfterNext look old new history (Err (stop.Io fault)) = FailedMessage look old new history fault
 
   -- these bytes of the open segment's data were given
   pub record PassedBytes (look : R → Input) (old new : Session R)
@@ -322,7 +333,7 @@ module _ {R : Type 0} where
     pub stopped : HasStopped new (stop.Wire offset fault)
 
   -- a failure inside the data: nothing was given
-  pub record StoppedData (look : R → Input) (old new : Session R) (fault : IoFault) : Type 0 where
+  pub record FailedData (look : R → Input) (old new : Session R) (fault : IoFault) : Type 0 where
     pub stops : TakesThenStops look old.source new.source [] fault
     pub stopped : HasStopped new (stop.Io fault)
 
@@ -332,25 +343,25 @@ module _ {R : Type 0} where
   AfterData look old new history buffer (Ok n) = CopiedData look old new history buffer n
   AfterData look old new history buffer (Err (stop.Wire offset fault)) =
       CutData look old new history offset fault
-  AfterData look old new history buffer (Err (stop.Io fault)) = StoppedData look old new fault
+  AfterData look old new history buffer (Err (stop.Io fault)) = FailedData look old new fault
 
   -- what holds after a call that makes data ready, by its result
   abbrev pub AfterLoad : (R → Input) → Session R → Session R → List ℕ → Result ℕ Stop → Type 0
   AfterLoad look old new history (Ok n) = LoadedData look old new history n
   AfterLoad look old new history (Err (stop.Wire offset fault)) =
       CutData look old new history offset fault
-  AfterLoad look old new history (Err (stop.Io fault)) = StoppedData look old new fault
+  AfterLoad look old new history (Err (stop.Io fault)) = FailedData look old new fault
 
   -- Each call that reads the next message into `message` ensures this.
   pub record ReadsNext (look : R → Input) (old new : Session R) (message : MessageBuffer)
       (result : Result (Option ℕ) Stop) : Type 0 where
-    pub settles : IfErr result (HasStopped new)
+    pub stops_with : IfErr result (HasStopped new)
     pub left : IfErr result (λ _. left_of new ≡ left_of old)
     pub again : HasEndedBetween old → (new ≡ old) × (result ≡ Ok None)
     pub gives : (history : List ℕ) → IsSessionAt look old history
         → AfterNext look old new history (with_message_read (message_of message) result)
     -- the items of a segment have their totals
-    pub totals : IfOk result (λ got. IfSome got (λ offset. SegmentTotalsFit message))
+    pub totals : IfOk result (λ got. IfSome got (λ offset. IfSegmentItemsHaveTotals message))
     pub opened : IsTrue (is_opened new)
     pub stopped : (why : Stop) → HasStopped old why → (new ≡ old) × (result ≡ Err why)
 
@@ -358,13 +369,13 @@ module _ {R : Type 0} where
   pub record LoadsData (look : R → Input) (old new : Session R)
       (result : Result ℕ Stop) : Type 0 where
     pub size : IfOk result (λ n. n ≡ length (data_in look new))
-    pub settles : IfErr result (HasStopped new)
+    pub stops_with : IfErr result (HasStopped new)
     pub left : IfErr result (λ _. left_of new ≡ left_of old)
     pub gives : (history : List ℕ) → IsSessionAt look old history
         → AfterLoad look old new history result
     pub opened : IsTrue (is_opened old) → IsTrue (is_opened new)
     -- if data is at hand already, nothing is read
     pub here : 0 < length (data_in look old) → new ≡ old
-    pub none : left_of old ≡ 0 → ((why : Stop) → HasStopped old why → ⊥)
+    pub none_left : left_of old ≡ 0 → ((why : Stop) → HasStopped old why → ⊥)
         → (new ≡ old) × (result ≡ Ok 0)
     pub stopped : (why : Stop) → HasStopped old why → (new ≡ old) × (result ≡ Err why)

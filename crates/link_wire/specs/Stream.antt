@@ -31,7 +31,8 @@ ended end = record { entries = []; end = end }
 abbrev pub with_entry : Entry → Stream → Stream
 with_entry entry rest = record { entries = entry ∷ rest.entries; end = rest.end }
 
--- the stream of a message whose data begins the bytes; `rest` is the stream after the data
+-- The stream of a message whose data begins the bytes. If the bytes end inside the data, the stream
+-- ends there. Otherwise `rest` is the stream after the data.
 abbrev pub with_data_of : ℕ → Message → List ℕ → Stream → Stream
 with_data_of offset message bytes rest =
     if nat_lt (length bytes) (data_length message)
@@ -61,7 +62,7 @@ messages_at zero offset (byte ∷ bytes) = ended Clean
 messages_at (suc count) offset (byte ∷ bytes) =
     stream_by (messages_at count) offset (length (byte ∷ bytes)) (message_at (byte ∷ bytes))
 
--- the messages from an offset on
+-- The stream of these bytes, which begin at the offset. It cannot have more messages than bytes.
 unfoldable pub stream_at : ℕ → List ℕ → Stream
 stream_at offset bytes = messages_at (length bytes) offset bytes
 

@@ -35,7 +35,7 @@ abbrev pub IsQuiet : Entry → Type 0
 IsQuiet entry = is_quiet entry.message ≡ true
 
 -- these bytes, which begin at the offset, are quiet messages, one after another
-pub record AreQuiet (offset : ℕ) (bytes : List ℕ) : Type 0 where
+pub record AreQuietMessages (offset : ℕ) (bytes : List ℕ) : Type 0 where
   pub entries : List Entry
   pub quiet : All IsQuiet entries
   pub are : AreMessages offset bytes entries
@@ -51,7 +51,7 @@ quiet_size kind =
     else (if kind == keepalive then 1 else (if kind == msg_reject then 3 else 2 ^ 63)))
 
 -- the first `size` bytes of the window are a quiet message
-pub record IsQuietHead (window : List ℕ) (size : ℕ) : Type 0 where
+pub record HasQuietMessageFirst (window : List ℕ) (size : ℕ) : Type 0 where
   pub message : Message
   pub quiet : is_quiet message ≡ true
   pub none : data_length message ≡ 0

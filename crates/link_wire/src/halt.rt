@@ -14,7 +14,8 @@ impl Halt {
     ghost use Rattle.std.specs.Prelude.{◌≡◌};
     ghost use Rattle.link_wire.specs.Halt.{stop_at};
 
-    /// The stop with this reason, in the message that begins at `offset`.
+    /// The stop with this reason, in the message that begins at `offset`. A failure (`Io`) does not
+    /// keep the offset.
     pub fn at(self, offset: u64) -> Stop
         ensures { result ≡ stop_at offset self }
     {

@@ -2,10 +2,10 @@
 
 ghost use Rattle.std.specs.Prelude.{◌≡◌, ◌<◌, ◌≤◌, [], ◌∷◌, length, Ok, None, IfOk, IfSome, OnOk};
 ghost use Rattle.link_io.specs.Source.{at_hand, reach, GivesAtHand, HasEnded, IsLive};
-ghost use Rattle.link_wire.specs.Message.{contact_at, node_at, node_bytes_at, segment_items_at, segment_at, ack_at, refuse_at, sess_term_at, msg_reject_at, sess_init_at, fields_at, TotalsFit};
+ghost use Rattle.link_wire.specs.Message.{contact_at, node_at, node_bytes_at, segment_items_at, segment_at, ack_at, refuse_at, sess_term_at, msg_reject_at, sess_init_at, fields_at, HaveTotalsIfLengthItems};
 ghost use Rattle.link_wire.specs.Getting.{ReadsPart, with_value};
 ghost use Rattle.link_wire.specs.Getting.{AfterKind};
-ghost use Rattle.link_wire.specs.MessageBuffer.{message_of, segment_items, SegmentTotalsFit};
+ghost use Rattle.link_wire.specs.MessageBuffer.{message_of, segment_items, IfSegmentItemsHaveTotals};
 
 use crate::codes::{
     KEEPALIVE, MAGIC, MSG_REJECT, SESS_INIT, SESS_TERM, START, VERSION, XFER_ACK, XFER_REFUSE,
@@ -75,7 +75,7 @@ fn segment_items<R: InDevice>(
     ensures gets { IsLive R.state source.old
         → ReadsPart R.state (segment_items_at flags) source.old source.new
         (with_value (segment_items flags items.new) result) }
-    ensures totals { OnOk result (TotalsFit items.new.items) }
+    ensures totals { OnOk result (HaveTotalsIfLengthItems items.new.items) }
 {
     if flags & START == START {
         list(source, ListOf::Transfer, items)
@@ -92,7 +92,7 @@ fn segment<R: InDevice>(source: &mut Source<R>, message: &mut MessageBuffer) -> 
     ensures gets { IsLive R.state source.old
         → ReadsPart R.state segment_at source.old source.new
         (with_value (message_of message.new) result) }
-    ensures totals { OnOk result (SegmentTotalsFit message.new) }
+    ensures totals { OnOk result (IfSegmentItemsHaveTotals message.new) }
 {
     let flags = number8(source)?;
     let id = number64(source)?;
@@ -107,7 +107,8 @@ fn ack<R: InDevice>(source: &mut Source<R>, message: &mut MessageBuffer) -> Resu
     ensures gets { IsLive R.state source.old
         → ReadsPart R.state ack_at source.old source.new
         (with_value (message_of message.new) result) }
-    ensures totals { OnOk result (SegmentTotalsFit message.new) }
+    // Only the items of a segment have totals, so this holds of any other message.
+    ensures totals { OnOk result (IfSegmentItemsHaveTotals message.new) }
 {
     let flags = number8(source)?;
     let id = number64(source)?;
@@ -121,7 +122,8 @@ fn refuse<R: InDevice>(source: &mut Source<R>, message: &mut MessageBuffer) -> R
     ensures gets { IsLive R.state source.old
         → ReadsPart R.state refuse_at source.old source.new
         (with_value (message_of message.new) result) }
-    ensures totals { OnOk result (SegmentTotalsFit message.new) }
+    // Only the items of a segment have totals, so this holds of any other message.
+    ensures totals { OnOk result (IfSegmentItemsHaveTotals message.new) }
 {
     let reason = number8(source)?;
     let id = number64(source)?;
@@ -134,7 +136,8 @@ fn sess_term<R: InDevice>(source: &mut Source<R>, message: &mut MessageBuffer) -
     ensures gets { IsLive R.state source.old
         → ReadsPart R.state sess_term_at source.old source.new
         (with_value (message_of message.new) result) }
-    ensures totals { OnOk result (SegmentTotalsFit message.new) }
+    // Only the items of a segment have totals, so this holds of any other message.
+    ensures totals { OnOk result (IfSegmentItemsHaveTotals message.new) }
 {
     let flags = number8(source)?;
     let reason = number8(source)?;
@@ -147,7 +150,8 @@ fn msg_reject<R: InDevice>(source: &mut Source<R>, message: &mut MessageBuffer) 
     ensures gets { IsLive R.state source.old
         → ReadsPart R.state msg_reject_at source.old source.new
         (with_value (message_of message.new) result) }
-    ensures totals { OnOk result (SegmentTotalsFit message.new) }
+    // Only the items of a segment have totals, so this holds of any other message.
+    ensures totals { OnOk result (IfSegmentItemsHaveTotals message.new) }
 {
     let reason = number8(source)?;
     let header = number8(source)?;
@@ -160,7 +164,8 @@ fn sess_init<R: InDevice>(source: &mut Source<R>, message: &mut MessageBuffer) -
     ensures gets { IsLive R.state source.old
         → ReadsPart R.state sess_init_at source.old source.new
         (with_value (message_of message.new) result) }
-    ensures totals { OnOk result (SegmentTotalsFit message.new) }
+    // Only the items of a segment have totals, so this holds of any other message.
+    ensures totals { OnOk result (IfSegmentItemsHaveTotals message.new) }
 {
     let keepalive = number16(source)?;
     let segment_mru = number64(source)?;
@@ -186,7 +191,7 @@ pub fn fields<R: InDevice>(
     ensures gets { IsLive R.state source.old
         → ReadsPart R.state (fields_at kind) source.old source.new
         (with_value (message_of message.new) result) }
-    ensures totals { OnOk result (SegmentTotalsFit message.new) }
+    ensures totals { OnOk result (IfSegmentItemsHaveTotals message.new) }
 {
     match kind {
         XFER_SEGMENT => segment(source, message),

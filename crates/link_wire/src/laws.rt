@@ -5,7 +5,7 @@
 ghost use Rattle.std.specs.Prelude.{◌≡◌, ℕ, List, [], ◌++◌};
 ghost use Rattle.link_io.specs.Bytes.{AreBytes};
 ghost use Rattle.link_wire.specs.Spelled.{Spelled};
-ghost use Rattle.link_wire.specs.SpelledStream.{IsReading};
+ghost use Rattle.link_wire.specs.SpelledStream.{IsReadingOf};
 ghost use Rattle.link_wire.specs.Stream.{Reading, reading_of};
 
 use crate::message::Message;
@@ -22,7 +22,7 @@ pub fn one_reading(a: &[u8], x: &[u8], m: &Message, d: &[u8], n: &Message, e: &[
 /// Every list of bytes has exactly one reading.
 #[tactic(auto, using(crate::proofs::OneReading::a_reading, crate::proofs::OneReading::only_reading))]
 pub fn exactly_one_reading()
-    ensures some { (bytes : List ℕ) → AreBytes bytes → IsReading bytes (reading_of bytes) }
-    ensures only { (bytes : List ℕ) (reading : Reading) → IsReading bytes reading
+    ensures some { (bytes : List ℕ) → AreBytes bytes → IsReadingOf bytes (reading_of bytes) }
+    ensures only { (bytes : List ℕ) (reading : Reading) → IsReadingOf bytes reading
         → reading ≡ reading_of bytes }
 {}

@@ -2,7 +2,7 @@
 
 ghost use Rattle.std.specs.Prelude.{◌≡◌, ◌≤◌, ◌<◌, ◌+◌, length, IsSome, IsTrue, IfOk, OnOk};
 ghost use Rattle.link_io.specs.Source.{IsLive};
-ghost use Rattle.link_wire.specs.Message.{is_total_length, TotalsFit, skipped_at, total_at, item_head_at, items_of as items_by, list_at};
+ghost use Rattle.link_wire.specs.Message.{is_total_length, HaveTotalsIfLengthItems, skipped_at, total_at, item_head_at, items_of as items_by, list_at};
 ghost use Rattle.link_wire.specs.Getting.{ReadsPart, with_value};
 
 use crate::codes::{ITEM_HEAD, TOTAL_SIZE, TRANSFER_LENGTH};
@@ -101,7 +101,7 @@ fn item_head<R: InDevice>(source: &mut Source<R>, left: u32) -> Result<ItemHead,
 /// Reads the items of a list of `length` bytes into `items`.
 ///
 /// The total of an item is its value, if that is a total length (see [`item_total`]). Only items of
-/// a transfer's list have one. By the clause `totals`, each of them that must have one has it.
+/// a transfer's list have one. No total is missing in `items`, even after an error (`totals`).
 fn items_of<R: InDevice>(
     source: &mut Source<R>,
     owner: ListOf,
@@ -111,7 +111,7 @@ fn items_of<R: InDevice>(
     ensures gets { IsLive R.state source.old
         → ReadsPart R.state (items_by owner length) source.old source.new
         (with_value items.new result) }
-    ensures totals { owner ≡ ListOf.Transfer → TotalsFit items.new.items }
+    ensures totals { owner ≡ ListOf.Transfer → HaveTotalsIfLengthItems items.new.items }
 {
     items.clear();
     let mut left = length;
@@ -141,7 +141,8 @@ pub fn list<R: InDevice>(
 ) -> Result<(), Halt>
     ensures gets { IsLive R.state source.old
         → ReadsPart R.state (list_at owner) source.old source.new (with_value items.new result) }
-    ensures totals { owner ≡ ListOf.Transfer → OnOk result (TotalsFit items.new.items) }
+    ensures totals { owner ≡ ListOf.Transfer
+        → OnOk result (HaveTotalsIfLengthItems items.new.items) }
 {
     let length = number32(source)?;
     if length > MAX_LIST_LENGTH {

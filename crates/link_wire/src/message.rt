@@ -188,7 +188,7 @@ pub struct MessageBuffer {
 impl MessageBuffer {
     ghost use Rattle.std.specs.Prelude.{◌≡◌, []};
     ghost use Rattle.link_wire.specs.Message.{data_length};
-    ghost use Rattle.link_wire.specs.MessageBuffer.{message_of, message_with, SegmentTotalsFit};
+    ghost use Rattle.link_wire.specs.MessageBuffer.{message_of, message_with, IfSegmentItemsHaveTotals};
 
     /// Makes a buffer that holds a KEEPALIVE.
     pub fn new() -> MessageBuffer
@@ -208,7 +208,7 @@ impl MessageBuffer {
     pub(crate) fn set(&mut self, fields: Fields)
         ensures message { message_of self.new
             ≡ message_with fields self.old.node (record { items = [] }) }
-        ensures totals { SegmentTotalsFit self.new }
+        ensures totals { IfSegmentItemsHaveTotals self.new }
     {
         self.fields = fields;
         self.items.clear();
@@ -223,6 +223,8 @@ impl MessageBuffer {
     }
 
     /// Returns the message that the buffer holds.
+    ///
+    /// A segment without START gets no items, since `items` has no meaning for it.
     pub fn into_message(self) -> Message
         ensures { result ≡ message_of self }
     {

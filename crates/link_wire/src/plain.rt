@@ -102,7 +102,8 @@ fn sess_term(window: &[u8]) -> Option<(Fields, usize)>
     Some((Fields::SessTerm { flags, reason }, 3))
 }
 
-/// [`plain`] for a MSG_REJECT: type, reason and rejected type. `None` if it is not whole there.
+/// [`plain`] for a MSG_REJECT: type, reason and rejected type. `None` if it is not whole in the
+/// window.
 #[tactic(auto, using(crate::proofs::Plains::msg_reject_head))]
 #[inline(always)]
 fn msg_reject(window: &[u8]) -> Option<(Fields, usize)>
@@ -117,8 +118,7 @@ fn msg_reject(window: &[u8]) -> Option<(Fields, usize)>
     Some((Fields::MsgReject { reason, header }, 3))
 }
 
-/// The numbers of the message whose head begins the window, and the length of that head, if it is a
-/// frequent head.
+/// If the window begins with a frequent head, the numbers of its message, and the head's length.
 ///
 /// A head is frequent if it has no node ID and no item, and shows no fault. The result is `None`
 /// for any other head, and for a head that is not whole in the window.

@@ -4,7 +4,7 @@
 //! XFER_ACK, XFER_REFUSE, KEEPALIVE and MSG_REJECT (RFC 9174 sections 5.1.1, 5.1.2, 5.2.3, 5.2.4).
 
 ghost use Rattle.std.specs.Prelude.{◌≡◌, ◌<◌, ◌≤◌, ℕ, length, take};
-ghost use Rattle.link_wire.specs.Whole.{AreQuiet, quiet_size};
+ghost use Rattle.link_wire.specs.Whole.{AreQuietMessages, quiet_size};
 
 /// The entry of a type byte that no quiet message has: more bytes than a slice can have.
 const NONE: usize = 1 << 63;
@@ -54,12 +54,12 @@ fn quiet_size(kind: u8) -> usize
 #[inline(always)]
 pub fn quiet(window: &[u8]) -> usize
     ensures within { result ≤ length window.now }
-    ensures quiet { (offset : ℕ) → AreQuiet offset (take result window.now) }
+    ensures quiet { (offset : ℕ) → AreQuietMessages offset (take result window.now) }
 {
     let mut at = 0;
     let mut next = 0;
-    // The loop ends at the end of the window, or past it: after a message that is not whole, and
-    // after a type byte that no quiet message has, since its size is `NONE`.
+    // All messages before `at` are quiet and whole. So is the message at `at` if it ends where the
+    // window ends. A message that is not quiet never ends there, since its size is `NONE`.
     while next < window.len() {
         at = next;
         next = at + quiet_size(window[at]);

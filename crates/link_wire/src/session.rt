@@ -37,8 +37,8 @@ impl<R: InDevice> Session<R> {
     ghost use Rattle.link_io.specs.Limits.{window_size};
     ghost use Rattle.link_io.specs.Source.{is_fresh, reader_of, given_by, window_of, front_of, reach};
     ghost use Rattle.link_wire.specs.Plain.{HasPlainHead};
-    ghost use Rattle.link_wire.specs.MessageBuffer.{message_of, SegmentTotalsFit};
-    ghost use Rattle.link_wire.specs.Session.{source_of, may_open, may_read, is_opened, IsSessionAt, HasEnoughForContact, HasEndedBetween, HasEnoughForNext, HasStopped, left_of, data_in, AfterOpen, GivenMessage, ReadsNext};
+    ghost use Rattle.link_wire.specs.MessageBuffer.{message_of, IfSegmentItemsHaveTotals};
+    ghost use Rattle.link_wire.specs.Session.{source_of, may_open, may_read, is_opened, IsSessionAt, HasEnoughForContact, HasEndedBetween, HasEnoughForNext, HasStopped, left_of, data_in, AfterOpen, GivenHead, ReadsNext};
     ghost use Rattle.link_wire.specs.declared.session.Phase.TheVariants as phase;
 
     /// Makes a session over a source that has taken nothing.
@@ -118,7 +118,8 @@ impl<R: InDevice> Session<R> {
         }
         let mut front = [0; FRONT];
         let count = self.source.peek(&mut front);
-        // The window is never full here. Only `IsSessionAt` says so, which `few` does not assume.
+        // By `IsSessionAt`, the window is never full here. The clause `few` does not assume that
+        // relation, so the window is tested.
         if let Phase::Unopened = self.phase {
             return !has_contact(&front[..count]) && self.source.window().len() < WINDOW;
         }
@@ -131,7 +132,7 @@ impl<R: InDevice> Session<R> {
     #[tactic(auto, using(crate::proofs::Sessions::contact_came, crate::proofs::Sessions::contact_refused, crate::proofs::Sessions::opens_live))]
     pub fn open(&mut self) -> Result<Contact, Stop>
         requires { IsTrue (may_open self.old) }
-        ensures settles { IfErr result (HasStopped self.new) }
+        ensures stops_with { IfErr result (HasStopped self.new) }
         ensures left { IfErr result (λ _. left_of self.new ≡ left_of self.old) }
         ensures gives { AfterOpen R.state self.old self.new result }
         ensures opened { IsTrue (is_opened self.new) }
@@ -177,6 +178,7 @@ impl<R: InDevice> Session<R> {
     #[inline(always)]
     fn head_here(&self) -> Option<(Fields, usize)>
         ensures head { IfSome result (λ head. HasPlainHead (window_of self.now.source) head.0 head.1) }
+        // If the input has ended between two messages, the window is empty.
         ensures again { HasEndedBetween self.now → result ≡ None }
         ensures stopped { (stop : _) → HasStopped self.now stop → result ≡ None }
     {
@@ -186,11 +188,12 @@ impl<R: InDevice> Session<R> {
         }
     }
 
-    /// Gives the next message if it has a frequent head that is whole in the window, and returns
-    /// the offset of its type byte.
+    /// Gives the next message if its head is frequent and lies whole in the window. Returns the
+    /// offset of its type byte.
     ///
-    /// This is [`Session::next`] for such a head, and it does not read from the reader. Without
-    /// such a head, and after a stop, it returns `None` and gives nothing.
+    /// A head is frequent if it has no node ID and no item, and shows no fault. The call does what
+    /// [`Session::next`] does for such a head, and does not read from the reader. Without such a
+    /// head, and after a stop, it returns `None` and gives nothing.
     #[inline(always)]
     pub fn next_here(&mut self, message: &mut MessageBuffer) -> Option<u64>
         requires { IsTrue (may_read self.old) }
@@ -198,8 +201,8 @@ impl<R: InDevice> Session<R> {
         ensures reader { reader_of (source_of self.new) ≡ reader_of (source_of self.old) }
         ensures gives { (history : List ℕ) → IsSessionAt R.state self.old history
             → IfSome result (λ offset.
-            GivenMessage R.state self.old self.new history offset (message_of message.new)) }
-        ensures totals { IfSome result (λ offset. SegmentTotalsFit message.new) }
+            GivenHead R.state self.old self.new history offset (message_of message.new)) }
+        ensures totals { IfSome result (λ offset. IfSegmentItemsHaveTotals message.new) }
         ensures opened { IsTrue (is_opened self.new) }
         ensures again { HasEndedBetween self.old → result ≡ None }
         ensures stopped { (stop : _) → HasStopped self.old stop → result ≡ None }
@@ -216,13 +219,12 @@ impl<R: InDevice> Session<R> {
         Some(offset)
     }
 
-    /// Gives the next message if the window is empty, its head is frequent and lies whole in the
-    /// memory of the reader, and its data is longer than a window.
+    /// Gives the next message if the window is empty, the message's data is longer than a window,
+    /// and its frequent head (see [`Session::next_here`]) lies whole in the reader's own buffer.
     ///
-    /// This is [`Session::next`] for such a head, and it does not read from the reader. Without
-    /// such a head, and after a stop, it returns `None` and gives nothing.
-    /// [`Session::next_fields`] would first fill the window, and so copy data that the caller can
-    /// take in place.
+    /// The call does what [`Session::next`] does for such a message, and does not read from the
+    /// reader. In any other case, it returns `None` and gives nothing. [`Session::next_fields`]
+    /// would first fill the window, and so copy data that the caller can take in place.
     #[tactic(auto, using(link_io::proofs::Sources::front_ended))]
     #[cold]
     #[inline(never)]
@@ -231,8 +233,8 @@ impl<R: InDevice> Session<R> {
         ensures none { result ≡ None → (self.new ≡ self.old) × (message.new ≡ message.old) }
         ensures gives { (history : List ℕ) → IsSessionAt R.state self.old history
             → IfSome result (λ offset.
-            GivenMessage R.state self.old self.new history offset (message_of message.new)) }
-        ensures totals { IfSome result (λ offset. SegmentTotalsFit message.new) }
+            GivenHead R.state self.old self.new history offset (message_of message.new)) }
+        ensures totals { IfSome result (λ offset. IfSegmentItemsHaveTotals message.new) }
         ensures opened { IsTrue (is_opened self.new) }
         ensures again { HasEndedBetween self.old → result ≡ None }
         ensures stopped { (stop : _) → HasStopped self.old stop → result ≡ None }
@@ -305,13 +307,13 @@ impl<R: InDevice> Session<R> {
     ghost use Rattle.std.specs.Prelude.{◌≡◌, ◌+◌, ◌<◌, ◌≤◌, ℕ, List, length, IfSome, None, IsTrue};
     ghost use Rattle.link_io.specs.Source.{reader_of, window_of, reach};
     ghost use Rattle.link_wire.specs.Message.{data_length};
-    ghost use Rattle.link_wire.specs.MessageBuffer.{message_of, message_with, SegmentTotalsFit};
+    ghost use Rattle.link_wire.specs.MessageBuffer.{message_of, message_with, IfSegmentItemsHaveTotals};
     ghost use Rattle.link_wire.specs.Plain.{HasPlainHead};
     ghost use Rattle.link_wire.specs.Session.{source_of, may_read, is_opened, HasEndedBetween, HasStopped, IsSessionAt};
     ghost use Rattle.link_wire.specs.Whole.{GivenWholeMessage, PassedQuietMessages};
 
-    /// Gives the next message with its data, if all of it is in the window and its head is
-    /// frequent.
+    /// Gives the next message with its data, if its head is frequent (see [`Session::next_here`])
+    /// and head and data lie whole in the window. Returns the offset of its type byte.
     ///
     /// Without such a message, and after a stop, it returns `None` and gives nothing. It does not
     /// read from the reader.
@@ -324,7 +326,7 @@ impl<R: InDevice> Session<R> {
         ensures gives { (history : List ℕ) → IsSessionAt R.state self.old history
             → IfSome result (λ offset.
             GivenWholeMessage R.state self.old self.new history offset (message_of message.new)) }
-        ensures totals { IfSome result (λ offset. SegmentTotalsFit message.new) }
+        ensures totals { IfSome result (λ offset. IfSegmentItemsHaveTotals message.new) }
         ensures opened { IsTrue (is_opened self.new) }
         ensures again { HasEndedBetween self.old → result ≡ None }
         ensures stopped { (stop : _) → HasStopped self.old stop → result ≡ None }
@@ -341,13 +343,15 @@ impl<R: InDevice> Session<R> {
             return None;
         }
         let offset = self.source.given();
+        // The data is given too. So `self.left` stays 0, and `self.offset` is not needed.
         self.source.give(size + content as usize);
         message.set(fields);
         Some(offset)
     }
 
-    /// Passes over the quiet messages that lie whole in the window. Returns how many bytes they
-    /// have: 0 if the window begins with another message or with a part of one, or after a stop.
+    /// Passes over the quiet messages that lie whole at the start of the window, and returns how
+    /// many bytes it has passed. It returns 0 if the window begins with another message or with a
+    /// part of a message, and after a stop.
     ///
     /// A quiet message has no data, and it changes neither the order nor the transfers of its
     /// sender. The call does not read from the reader.
@@ -388,16 +392,19 @@ impl<R: InDevice> Session<R> {
     /// [`WireFault::Truncated`], at the offset of the segment.
     pub fn data(&mut self, buffer: &mut [u8]) -> Result<usize, Stop>
         ensures bound { IfOk result (λ n. n ≤ length buffer.new) }
-        ensures settles { IfErr result (HasStopped self.new) }
+        // An error is the stop with which the session has stopped.
+        ensures stops_with { IfErr result (HasStopped self.new) }
         ensures left { IfErr result (λ _. left_of self.new ≡ left_of self.old) }
         ensures gives { (history : List ℕ) → IsSessionAt R.state self.old history
             → AfterData R.state self.old self.new history buffer.new result }
         ensures opened { IsTrue (is_opened self.old) → IsTrue (is_opened self.new) }
-        ensures none { left_of self.old ≡ 0 → ((stop : _) → HasStopped self.old stop → ⊥)
+        // If no data is left and the session has not stopped, it returns 0 and changes nothing.
+        ensures none_left { left_of self.old ≡ 0 → ((stop : _) → HasStopped self.old stop → ⊥)
             → (self.new ≡ self.old) × (result ≡ Ok 0) }
         ensures stopped { (stop : _) → HasStopped self.old stop
             → (self.new ≡ self.old) × (result ≡ Err stop) }
-        ensures nothing { length buffer.old ≡ 0 → self.new ≡ self.old }
+        // With an empty slice, it changes nothing.
+        ensures no_room { length buffer.old ≡ 0 → self.new ≡ self.old }
         ensures rest { IfOk result (λ n. drop n buffer.new ≡ drop n buffer.old) }
     {
         if buffer.is_empty() {
@@ -416,7 +423,7 @@ impl<R: InDevice> Session<R> {
     /// has stopped.
     fn no_data(&self) -> Result<usize, Stop>
         ensures size { IfOk result (λ n. n ≡ 0) }
-        ensures stops { IfErr result (HasStopped self.now) }
+        ensures stops_with { IfErr result (HasStopped self.now) }
         ensures stopped { (stop : _) → HasStopped self.now stop → result ≡ Err stop }
         ensures going { ((stop : _) → HasStopped self.now stop → ⊥) → result ≡ Ok 0 }
     {
@@ -426,7 +433,9 @@ impl<R: InDevice> Session<R> {
         }
     }
 
-    /// Fills the slice with the next data at hand, and gives that data. As much has to be at hand.
+    /// Fills the slice with the next data at hand, and gives that data.
+    ///
+    /// The slice is not longer than the data at hand.
     fn copy(&mut self, part: &mut [u8])
         requires { length part.old ≤ length (data_in R.state self.old) }
         ensures opened { is_opened self.new ≡ is_opened self.old }
@@ -457,12 +466,15 @@ impl<R: InDevice> Session<R> {
         }
     }
 
-    /// Does [`Session::load`] if no data is at hand, or after a stop.
+    /// The rest of [`Session::load`], which calls it if no data is at hand, or after a stop.
+    ///
+    /// After a stop, it returns that stop again. If no data is left, it returns 0. Otherwise it
+    /// reads once, and returns how many bytes of the segment's data are then at hand.
     #[cold]
     #[inline(never)]
     fn load_on(&mut self) -> Result<usize, Stop>
         ensures loads { LoadsData R.state self.old self.new result }
-        // If data is at hand, nothing is read.
+        // If enough bytes are at hand for what comes next, nothing is read.
         ensures unread { HasEnoughForNext R.state self.old
             → reach R.state (source_of self.new) ≡ reach R.state (source_of self.old) }
     {

@@ -8,7 +8,7 @@ ghost use Rattle.std.specs.Prelude.{◌≡◌, ℕ, ◌+◌, ◌≤◌, List, []
 ghost use Rattle.link_wire.specs.Part.{Part, bytes_at, number_at};
 ghost use Rattle.link_wire.specs.MessageBuffer.{message_with};
 ghost use Rattle.link_wire.specs.Message.{is_total_length, contact_at, node_at, total_at, item_head_at, items_of, list_at, segment_at, ack_at, refuse_at, sess_term_at, msg_reject_at, sess_init_at, fields_at, message_at};
-ghost use Rattle.link_wire.specs.InSlice.{read_part, read_node, read_head, LocatesItem, LocatesEnd, MessageItemsLie, SpansFit, MessageLies, LocatesList, LocatesMessage};
+ghost use Rattle.link_wire.specs.InSlice.{read_part, read_node, read_head, LocatesItem, LocatesItemsEnd, MessageItemsLie, SpansFit, MessageLies, LocatesList, LocatesMessageInSlice};
 
 use crate::codes::{
     ITEM_HEAD, KEEPALIVE, MAGIC, MSG_REJECT, SESS_INIT, SESS_TERM, START, TOTAL_SIZE,
@@ -131,7 +131,8 @@ fn number64_at(bytes: &[u8], at: usize) -> Result<(u64, usize), WireFault>
     }
 }
 
-/// Reads the contact header that the bytes begin with (RFC 9174 section 4.2).
+/// Reads the contact header that the bytes begin with (RFC 9174 section 4.2). Returns it, and the
+/// offset after it.
 #[tactic(auto, unfolding(crate::specs::Message::contact_at))]
 pub fn contact_in(bytes: &[u8]) -> Result<(Contact, usize), WireFault>
     ensures { contact_at bytes.now ≡ read_part bytes.now result }
@@ -234,8 +235,8 @@ fn is_total_length(owner: ListOf, item: &Item) -> bool
     }
 }
 
-/// Reads the value of an item. Returns it if it is a total length, or else `None`, and the offset
-/// after it.
+/// Reads the value of an item. Returns the total if the value is a total length, and `None` if it
+/// is not. Also returns the offset after the value.
 #[tactic(auto, unfolding(crate::specs::Message::total_at, crate::specs::Message::skipped_at))]
 fn total_at(
     bytes: &[u8],
@@ -276,7 +277,7 @@ pub fn item_in(bytes: &[u8], offset: usize, left: u32, owner: ListOf) -> Result<
 /// The items are only checked: nothing of them is kept, not even the total of a transfer's item.
 fn items_of(bytes: &[u8], start: usize, owner: ListOf, size: u32) -> Result<usize, WireFault>
     requires { start ≤ length bytes.now }
-    ensures { LocatesEnd bytes.now (start + size)
+    ensures { LocatesItemsEnd bytes.now (start + size)
         (items_of owner size (drop start bytes.now)) result }
 {
     let mut at = start;
@@ -321,7 +322,7 @@ fn list_at(bytes: &[u8], at: usize, owner: ListOf) -> Result<(Span, usize), Wire
 #[tactic(auto, unfolding(crate::specs::Message::segment_at, crate::specs::Message::segment_items_at))]
 fn segment_at(bytes: &[u8], at: usize) -> Result<MessageAt, WireFault>
     requires { at ≤ length bytes.now }
-    ensures { LocatesMessage bytes.now (segment_at (drop at bytes.now)) result }
+    ensures { LocatesMessageInSlice bytes.now (segment_at (drop at bytes.now)) result }
 {
     let (flags, at) = number8_at(bytes, at)?;
     let (id, at) = number64_at(bytes, at)?;
@@ -343,7 +344,7 @@ fn segment_at(bytes: &[u8], at: usize) -> Result<MessageAt, WireFault>
 #[tactic(auto, unfolding(crate::specs::Message::ack_at))]
 fn ack_at(bytes: &[u8], at: usize) -> Result<MessageAt, WireFault>
     requires { at ≤ length bytes.now }
-    ensures { LocatesMessage bytes.now (ack_at (drop at bytes.now)) result }
+    ensures { LocatesMessageInSlice bytes.now (ack_at (drop at bytes.now)) result }
 {
     let (flags, at) = number8_at(bytes, at)?;
     let (id, at) = number64_at(bytes, at)?;
@@ -355,7 +356,7 @@ fn ack_at(bytes: &[u8], at: usize) -> Result<MessageAt, WireFault>
 #[tactic(auto, unfolding(crate::specs::Message::refuse_at))]
 fn refuse_at(bytes: &[u8], at: usize) -> Result<MessageAt, WireFault>
     requires { at ≤ length bytes.now }
-    ensures { LocatesMessage bytes.now (refuse_at (drop at bytes.now)) result }
+    ensures { LocatesMessageInSlice bytes.now (refuse_at (drop at bytes.now)) result }
 {
     let (reason, at) = number8_at(bytes, at)?;
     let (id, end) = number64_at(bytes, at)?;
@@ -366,7 +367,7 @@ fn refuse_at(bytes: &[u8], at: usize) -> Result<MessageAt, WireFault>
 #[tactic(auto, unfolding(crate::specs::Message::sess_term_at))]
 fn sess_term_at(bytes: &[u8], at: usize) -> Result<MessageAt, WireFault>
     requires { at ≤ length bytes.now }
-    ensures { LocatesMessage bytes.now (sess_term_at (drop at bytes.now)) result }
+    ensures { LocatesMessageInSlice bytes.now (sess_term_at (drop at bytes.now)) result }
 {
     let (flags, at) = number8_at(bytes, at)?;
     let (reason, end) = number8_at(bytes, at)?;
@@ -377,7 +378,7 @@ fn sess_term_at(bytes: &[u8], at: usize) -> Result<MessageAt, WireFault>
 #[tactic(auto, unfolding(crate::specs::Message::msg_reject_at))]
 fn msg_reject_at(bytes: &[u8], at: usize) -> Result<MessageAt, WireFault>
     requires { at ≤ length bytes.now }
-    ensures { LocatesMessage bytes.now (msg_reject_at (drop at bytes.now)) result }
+    ensures { LocatesMessageInSlice bytes.now (msg_reject_at (drop at bytes.now)) result }
 {
     let (reason, at) = number8_at(bytes, at)?;
     let (header, end) = number8_at(bytes, at)?;
@@ -388,7 +389,7 @@ fn msg_reject_at(bytes: &[u8], at: usize) -> Result<MessageAt, WireFault>
 #[tactic(auto, unfolding(crate::specs::Message::sess_init_at))]
 fn sess_init_at(bytes: &[u8], at: usize) -> Result<MessageAt, WireFault>
     requires { at ≤ length bytes.now }
-    ensures { LocatesMessage bytes.now (sess_init_at (drop at bytes.now)) result }
+    ensures { LocatesMessageInSlice bytes.now (sess_init_at (drop at bytes.now)) result }
 {
     let (keepalive, at) = number16_at(bytes, at)?;
     let (segment_mru, at) = number64_at(bytes, at)?;
@@ -412,7 +413,7 @@ fn sess_init_at(bytes: &[u8], at: usize) -> Result<MessageAt, WireFault>
 #[tactic(auto, unfolding(crate::specs::Message::fields_at))]
 fn fields_at(bytes: &[u8], at: usize, kind: u8) -> Result<MessageAt, WireFault>
     requires { at ≤ length bytes.now }
-    ensures { LocatesMessage bytes.now (fields_at kind (drop at bytes.now)) result }
+    ensures { LocatesMessageInSlice bytes.now (fields_at kind (drop at bytes.now)) result }
 {
     match kind {
         XFER_SEGMENT => segment_at(bytes, at),
@@ -428,11 +429,11 @@ fn fields_at(bytes: &[u8], at: usize, kind: u8) -> Result<MessageAt, WireFault>
 
 /// Reads the message that begins at an offset, without the data of a segment.
 ///
-/// RFC 9174 section 4.5 has the types of messages.
+/// RFC 9174 section 4.5 lists the types of messages.
 #[tactic(auto, unfolding(crate::specs::Message::message_at))]
 pub fn message_in(bytes: &[u8], offset: usize) -> Result<MessageAt, WireFault>
     requires { offset ≤ length bytes.now }
-    ensures { LocatesMessage bytes.now (message_at (drop offset bytes.now)) result }
+    ensures { LocatesMessageInSlice bytes.now (message_at (drop offset bytes.now)) result }
 {
     let (kind, at) = number8_at(bytes, offset)?;
     fields_at(bytes, at, kind)

@@ -137,7 +137,7 @@ pub fn put_sess_init(
     put_u32(buffer, 0);
 }
 
-/// Appends a Transfer Length item (RFC 9174 section 5.2.5.1).
+/// Appends a Transfer Length item without flags (RFC 9174 section 5.2.5.1).
 #[tactic(auto, unfolding(crate::specs::Spelling::total_bytes))]
 fn put_total(buffer: &mut HeadBuf, total: u64)
     requires { array_vec_len buffer.old + 13 ≤ HEAD_MAX }

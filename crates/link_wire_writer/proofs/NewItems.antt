@@ -10,7 +10,7 @@ use Rattle.link_wire.specs.Part.{bytes_at, number_at}
 use Rattle.link_wire.specs.Spelled.{be, total_of}
 use Rattle.link_wire.specs.declared.message.{Item.Item, ListOf.ListOf}
 use Rattle.link_wire_writer.specs.MessageBytes.{item_bytes}
-use Rattle.link_wire_writer.specs.ReadsBack.{NewItem, ItemFits, items_bytes, read_item, ItemsReadBack}
+use Rattle.link_wire_writer.specs.ReadsBack.{NewItem, ItemFieldsFit, items_bytes, read_item, ItemsReadBack}
 
 value_there : (owner : ListOf) (kind : ℕ) (value more : List ℕ) (test : Bool)
     → is_total_length owner kind (length value) ≡ test
@@ -25,7 +25,7 @@ value_there owner kind value more true known =
 value_there owner kind value more false known = rw (known, bytes_at-there value more) refl
 
 one_more : (owner : ListOf) (room left : ℕ) (item : NewItem) (tail : List ℕ) (others : List Item)
-    → ItemFits item → length item.value < 2 ^ 16 → left ≡ 5 + length item.value + length tail
+    → ItemFieldsFit item → length item.value < 2 ^ 16 → left ≡ 5 + length item.value + length tail
     → items_at owner room (length tail) tail ≡ Ok (others, [])
     → items_at owner (suc room) left (item_bytes item.flags item.kind item.value ++ tail)
     ≡ Ok (read_item owner item ∷ others, [])
@@ -45,7 +45,7 @@ one_more owner room left item tail others fit short is rest =
     ) refl
 
 items_there : (owner : ListOf) (items : List NewItem) (room : ℕ)
-    → All ItemFits items → length items ≤ room → length (items_bytes items) ≤ longest_list
+    → All ItemFieldsFit items → length items ≤ room → length (items_bytes items) ≤ longest_list
     → items_at owner room (length (items_bytes items)) (items_bytes items)
     ≡ Ok (map (read_item owner) items, [])
 unfolding items_at item_bytes
@@ -56,8 +56,8 @@ items_there owner (item ∷ items) (suc room) all few short =
     let tail = items_bytes items in
     let size = length-append item.value tail in
     one_more owner room (length (items_bytes (item ∷ items))) item tail (map (read_item owner) items)
-    (All-head ItemFits item items all) (omega arith) (omega arith)
-    (items_there owner items room (All-tail ItemFits item items all) (omega arith) (omega arith))
+    (All-head ItemFieldsFit item items all) (omega arith) (omega arith)
+    (items_there owner items room (All-tail ItemFieldsFit item items all) (omega arith) (omega arith))
 
 pub items_back : ItemsReadBack
 unfolding items_of

@@ -66,7 +66,8 @@ abbrev pub message_of : Fields → (node items : List ℕ) → Option (List ℕ)
 message_of fields node items =
     if is_writable fields node items then Some (message_bytes fields node items) else None
 
--- the bytes of an item, or `None` if they are more than a list may have; five come before the value
+-- The bytes of an item, or `None` if they are more than a list may have. Five bytes precede the
+-- value.
 abbrev pub item_of : (flags kind : ℕ) (value : List ℕ) → Option (List ℕ)
 item_of flags kind value =
     if nat_le (5 + length value) longest_list then Some (item_bytes flags kind value) else None

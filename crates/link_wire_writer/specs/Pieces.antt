@@ -12,7 +12,8 @@ init_front interval segment_mru transfer_mru node list =
     be 1 sess_init ++ be 2 interval ++ be 8 segment_mru ++ be 8 transfer_mru ++ node_bytes node
     ++ be 4 list
 
--- a message up to the items of its list, which have `list` bytes
+-- A message up to the items of its list, which have `list` bytes. Without a list, it is a segment
+-- up to the length of its data, or all of another message.
 abbrev pub front_of : Fields → (node : List ℕ) → (list : ℕ) → List ℕ
 front_of (SessInit interval segment_mru transfer_mru) node list =
     init_front interval segment_mru transfer_mru node list
@@ -24,7 +25,8 @@ front_of Keepalive node list = be 1 keepalive
 front_of (SessTerm flags reason) node list = be 1 sess_term ++ be 1 flags ++ be 1 reason
 front_of (MsgReject reason header) node list = be 1 msg_reject ++ be 1 reason ++ be 1 header
 
--- a message after the items of its list
+-- The bytes of a message after the items of its list. They are the length of a segment's data, and
+-- other messages have none.
 abbrev pub tail_of : Fields → List ℕ
 tail_of (Segment flags id size) = be 8 size
 tail_of _ = []

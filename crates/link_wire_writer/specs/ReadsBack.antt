@@ -31,7 +31,7 @@ abbrev pub items_or_none : Result (ArrayVec Item × List ℕ) WireFault → Arra
 items_or_none (Ok (items, rest)) = items
 items_or_none (Err fault) = record { items = [] }
 
--- the items of a message, as the bytes of its list are read
+-- the items that are read from the bytes of a message's list
 abbrev pub items_in : Fields → (items : List ℕ) → ArrayVec Item
 items_in (SessInit interval segment_mru transfer_mru) items =
     items_or_none (items_of Session (length items) items)
@@ -42,7 +42,8 @@ abbrev pub written_message : Fields → (node items : List ℕ) → Message
 written_message fields node items =
     message_with fields (record { items = node }) (items_in fields items)
 
--- The head that was written is read as this message, whatever bytes follow it. These are left.
+-- The head that was written is read as this message, whatever bytes follow it. The bytes that
+-- follow (`more`) are left.
 abbrev pub MessageReadsBack : Type 0
 MessageReadsBack =
     (fields : Fields) (node items more : List ℕ) → FieldsFit fields →
@@ -58,14 +59,14 @@ pub record NewItem : Type 0 where
   pub value : List ℕ
 
 -- the flags and the type of an item fit in their fields
-abbrev pub ItemFits : NewItem → Type 0
-ItemFits item = (item.flags < 2 ^ 8) × (item.kind < 2 ^ 16)
+abbrev pub ItemFieldsFit : NewItem → Type 0
+ItemFieldsFit item = (item.flags < 2 ^ 8) × (item.kind < 2 ^ 16)
 
 -- the bytes of items one after another
 abbrev pub items_bytes : List NewItem → List ℕ
 items_bytes items = flat_map (λ (item : NewItem). item_bytes item.flags item.kind item.value) items
 
--- an item as it is read: without its value, but with the total length that the value may be
+-- An item as it is read. Its value is not kept, except the total length in a Transfer Length item.
 abbrev pub read_item : (owner : ListOf) → NewItem → Item
 read_item owner item = record {
   flags = item.flags;
@@ -78,7 +79,7 @@ read_item owner item = record {
 -- most 64, in at most 65,536 bytes.
 abbrev pub ItemsReadBack : Type 0
 ItemsReadBack =
-    (owner : ListOf) (items : List NewItem) → All ItemFits items → length items ≤ most_items →
+    (owner : ListOf) (items : List NewItem) → All ItemFieldsFit items → length items ≤ most_items →
     length (items_bytes items) ≤ longest_list →
     items_of owner (length (items_bytes items)) (items_bytes items)
     ≡ Ok (record { items = map (read_item owner) items }, [])

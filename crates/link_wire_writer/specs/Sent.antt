@@ -39,8 +39,8 @@ sent_entries offset (sent ∷ more) =
       content = sent.content;
     } ∷ sent_entries (offset + length (sent_message sent)) more
 
--- The stream is read as these messages, and ends after the last of them. `list` shows this reading.
--- The first message begins at offset 6, since a contact header has 6 bytes.
+-- The stream is read as these messages, and ends after the last of them. The tool `list` shows this
+-- reading. The first message begins at offset 6, since a contact header has 6 bytes.
 abbrev pub StreamReadsBack : Type 0
 StreamReadsBack =
     (flags : ℕ) (messages : List Sent) → flags < 2 ^ 8 → All IsSendable messages →

@@ -2,7 +2,7 @@
 
 ghost use Rattle.std.specs.Prelude.{◌≡◌};
 ghost use Rattle.link_wire_writer.specs.MessageBytes.{are_items, item_of};
-ghost use Rattle.link_writing.specs.Writes.{WritesSlice};
+ghost use Rattle.link_writing.specs.Writes.{WritesIntoSlice};
 
 use arrayvec::ArrayVec;
 use link_wire::{ListOf, MAX_ITEMS, MAX_LIST_LENGTH, item_in};
@@ -23,7 +23,7 @@ const VALUE_MAX: usize = 65_531;
 /// The value has more than 65,531 bytes, or the slice is too small.
 #[tactic(auto, unfolding(crate::specs::MessageBytes::item_bytes))]
 pub fn write_item(flags: u8, kind: u16, value: &[u8], slice: &mut [u8]) -> Result<usize, WriteFault>
-    ensures { WritesSlice (item_of flags kind value.now) slice.old slice.new result }
+    ensures { WritesIntoSlice (item_of flags kind value.now) slice.old slice.new result }
 {
     if value.len() > VALUE_MAX {
         return Err(WriteFault::OutOfRange);

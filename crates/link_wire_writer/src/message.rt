@@ -5,7 +5,7 @@ ghost use Rattle.link_wire.specs.Codes.{is_start};
 ghost use Rattle.link_wire.specs.Spelling.{contact_bytes};
 ghost use Rattle.link_wire_writer.specs.MessageBytes.{is_writable, message_of};
 ghost use Rattle.link_wire_writer.specs.Pieces.{init_front, front_of, tail_of};
-ghost use Rattle.link_writing.specs.Writes.{WritesSlice};
+ghost use Rattle.link_writing.specs.Writes.{WritesIntoSlice};
 
 use crate::codes::{
     KEEPALIVE, MSG_REJECT, SESS_INIT, SESS_TERM, XFER_ACK, XFER_REFUSE, XFER_SEGMENT,
@@ -34,7 +34,7 @@ type Tail = ArrayVec<u8, 8>;
 ///
 /// The slice has fewer than 6 bytes.
 pub fn write_contact(flags: u8, slice: &mut [u8]) -> Result<usize, WriteFault>
-    ensures { WritesSlice (Some (contact_bytes flags)) slice.old slice.new result }
+    ensures { WritesIntoSlice (Some (contact_bytes flags)) slice.old slice.new result }
 {
     let mut header = HeadBuf::new();
     put_contact(&mut header, flags);
@@ -87,8 +87,10 @@ fn put_sess_init(
     put_u32(front, list);
 }
 
-/// Appends a message up to the items of its list: all of it, if it has no list. `list` is the
-/// number of bytes of the items.
+/// Appends a message up to the items of its list. `list` is the number of bytes of the items.
+///
+/// A segment without a list is appended up to the length of its data. All of any other message
+/// without a list is appended.
 fn put_front(front: &mut Front, fields: Fields, node: &[u8], list: u32)
     requires empty { front.old.items ≡ [] }
     requires short { length node.now ≤ 1024 }
@@ -133,7 +135,8 @@ fn put_front(front: &mut Front, fields: Fields, node: &[u8], list: u32)
     }
 }
 
-/// The bytes of a message after the items of its list: the length of a segment's data.
+/// The bytes of a message after the items of its list. They are the length of a segment's data, and
+/// other messages have none.
 fn tail_of(fields: Fields) -> Tail
     ensures { result.items ≡ tail_of fields }
 {
@@ -162,7 +165,7 @@ pub fn write_message(
     items: &[u8],
     slice: &mut [u8],
 ) -> Result<usize, WriteFault>
-    ensures { WritesSlice (message_of fields node.now items.now) slice.old slice.new result }
+    ensures { WritesIntoSlice (message_of fields node.now items.now) slice.old slice.new result }
 {
     if !is_writable(fields, node, items) {
         return Err(WriteFault::OutOfRange);

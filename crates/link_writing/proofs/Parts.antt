@@ -2,7 +2,7 @@
 use Rattle.std.proofs.Common.{◌≡◌, ℕ, ◌+◌, ◌≤◌, nat_le, true, List, ◌++◌, length, take, drop, Some, Ok, arith, refl, ap, ◌∙◌, length-append, zero-add}
 use Rattle.std.proofs.Math.Seq.{take-append_seam, drop-append-add}
 use Rattle.std.proofs.lemmas.{List.drop-drop, Bool.Decides.nat_tests}
-use Rattle.link_writing.specs.Writes.{WritesSlice}
+use Rattle.link_writing.specs.Writes.{WritesIntoSlice}
 
 -- the slice after some bytes were written to its start
 abbrev pub begun : (front slice : List ℕ) → List ℕ
@@ -23,7 +23,7 @@ begun-next front bytes slice =
 
 -- bytes that fit were written to the start of a slice
 all_written : (bytes slice : List ℕ) → length bytes ≤ length slice
-    → WritesSlice (Some bytes) slice (begun bytes slice) (Ok (length bytes))
+    → WritesIntoSlice (Some bytes) slice (begun bytes slice) (Ok (length bytes))
 all_written bytes slice fits =
     let room : nat_le (length bytes) (length slice) ≡ true = grind (arith, nat_tests) in
     record { slice = rw room refl; returns = rw room refl }
@@ -33,7 +33,7 @@ pub three_parts : (f g h slice one two all : List ℕ)
     → one ≡ take 0 slice ++ f ++ drop (0 + length f) slice
     → two ≡ take (length f) one ++ g ++ drop (length f + length g) one
     → all ≡ take (length f + length g) two ++ h ++ drop (length f + length g + length h) two
-    → WritesSlice (Some (f ++ g ++ h)) slice all (Ok (length f + length g + length h))
+    → WritesIntoSlice (Some (f ++ g ++ h)) slice all (Ok (length f + length g + length h))
 three_parts f g h slice one two all fits is_one is_two is_all =
     let first : one ≡ begun f slice = rw zero-add at is_one in
     let second : two ≡ begun (f ++ g) slice =

@@ -23,7 +23,7 @@ outcome slice (Some bytes) =
 
 -- A writer had these bytes to write, or `None` if a value is out of its range. It left `new` in the
 -- slice, which was `old`, and returned `result`.
-pub record WritesSlice (bytes : Option (List ℕ)) (old new : List ℕ)
+pub record WritesIntoSlice (bytes : Option (List ℕ)) (old new : List ℕ)
     (result : Result ℕ WriteFault) : Type 0 where
   pub slice : new ≡ slice_after old bytes
   pub returns : result ≡ outcome old bytes

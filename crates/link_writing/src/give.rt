@@ -1,14 +1,14 @@
 //! Writing bytes to the start of a slice that may be too small.
 
 ghost use Rattle.std.specs.Prelude.{◌≡◌, ◌+◌, ◌^◌, ◌<◌, ◌≤◌, ◌++◌, Some, length, take, drop};
-ghost use Rattle.link_writing.specs.Writes.{WritesSlice};
+ghost use Rattle.link_writing.specs.Writes.{WritesIntoSlice};
 
 use crate::fault::WriteFault;
 
 /// Writes the bytes to the start of the slice, and returns their number. If the slice has no room
 /// for all of them, it writes nothing and returns their number in [`WriteFault::TooSmall`].
 pub fn write_bytes(bytes: &[u8], slice: &mut [u8]) -> Result<usize, WriteFault>
-    ensures { WritesSlice (Some bytes.now) slice.old slice.new result }
+    ensures { WritesIntoSlice (Some bytes.now) slice.old slice.new result }
 {
     let size = bytes.len();
     if slice.len() < size {
@@ -35,7 +35,8 @@ pub fn write_parts(
     slice: &mut [u8],
 ) -> Result<usize, WriteFault>
     requires { length first.now + length second.now + length third.now < 2 ^ 64 }
-    ensures { WritesSlice (Some (first.now ++ second.now ++ third.now)) slice.old slice.new result }
+    ensures { WritesIntoSlice
+        (Some (first.now ++ second.now ++ third.now)) slice.old slice.new result }
 {
     let middle = first.len() + second.len();
     let size = middle + third.len();

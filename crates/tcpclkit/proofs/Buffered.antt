@@ -4,7 +4,7 @@ use Rattle.std.proofs.Math.Seq.{take-append-add}
 use Rattle.std.specs.Io.KnownBytes.{Appends, Keeps, append_known, prepend_known}
 use Rattle.link_wire.specs.{Device.{Input, Output}, TextWriter.AppendsPart}
 use Rattle.link_wire.specs.declared.DeviceFault.{DeviceFault}
-use Rattle.tcpclkit.specs.BufferedEnd.{IsPrefixIfKnown, HandsOn}
+use Rattle.tcpclkit.specs.BufferedEnd.{IsPrefixIfWholeIsKnown, HandsOn}
 
 nothing_before : (rest : Option (List ℕ)) → prepend_known [] rest ≡ rest
 nothing_before None = refl
@@ -21,7 +21,7 @@ read_input capacity buffer rest known size empty is = rw (size, empty) (ap (hold
 
 -- if a prefix of what waited was handed on, the stream has a prefix of all that was written
 first_handed : (old new : Option (List ℕ)) (waiting : List ℕ) (count : ℕ)
-    → Appends old new (take count waiting) → IsPrefixIfKnown (append_known old waiting) new
+    → Appends old new (take count waiting) → IsPrefixIfWholeIsKnown (append_known old waiting) new
 first_handed None new waiting count written = (0, tt)
 first_handed (Some xs) None waiting count written = absurd written
 first_handed (Some xs) (Some ys) waiting count written = (length xs + count, rw (take-append-add xs waiting count) written)

@@ -10,15 +10,16 @@ use Rattle.link_tools.specs.Options.{AfterJob}
 use Rattle.link_tools.specs.declared.options.Job.{Job}
 use Rattle.tcpclkit.specs.Ending.{answer_after_flush}
 
--- `first` is a prefix of `all`, the bytes of a device, if these are known
-abbrev pub IsPrefixIfKnown : (all first : Option (List ℕ)) → Type 0
-IsPrefixIfKnown all first = (count : ℕ) × Keeps (option_map (take count) all) first
+-- if the bytes `all` of a device are known, `first` is a prefix of them
+abbrev pub IsPrefixIfWholeIsKnown : (all first : Option (List ℕ)) → Type 0
+IsPrefixIfWholeIsKnown all first = (count : ℕ) × Keeps (option_map (take count) all) first
 
 -- What was written was handed on to the stream: all of it, or a prefix of it if the stream failed.
+-- If the stream had failed before, it still counts as failed.
 pub record HandsOn (written handed : Output) : Type 0 where
   pub failed : written.failed ≡ true → handed.failed ≡ true
   pub bytes : Keeps written.written handed.written
-      ⊎ ((handed.failed ≡ true) × IsPrefixIfKnown written.written handed.written)
+      ⊎ ((handed.failed ≡ true) × IsPrefixIfWholeIsKnown written.written handed.written)
 
 module _ {R W E : Type 0} (look : Looks R W E) where
   -- The tool was run over the devices `start`, with this log. What it wrote was handed on, and

@@ -20,11 +20,10 @@ pub enum Ending {
     Answer(Result<Status, IoFault>),
 }
 
-/// Returns the program's answer for the answer of a run.
+/// Returns the program's answer, from the answer of a run.
 ///
-/// `flushed` is whether the output and the report were flushed. What stopped the run first decides:
-/// a failed flush is a failed write only if the run ended with neither a fault of the input nor a
-/// failure.
+/// `flushed` is whether the output and the report were flushed. If the run ended with a fault of
+/// the input or a failure, its answer stays. After any other run, a failed flush is a failed write.
 pub fn after_flush(answer: Result<Status, IoFault>, flushed: bool) -> Result<Status, IoFault>
     ensures { result ≡ answer_after_flush answer flushed }
 {
@@ -52,8 +51,8 @@ pub fn ending_exit(ending: &Ending) -> (u8, &'static str)
 
 /// Returns the program's exit status; `written` is whether its text or message was written.
 ///
-/// With status 0, the only text is one that was asked for. If it was not written, the status is 4,
-/// that of a failed write. Any other status stays.
+/// A call with status 0 has a text only if help or the version was asked for. If this text was not
+/// written, the status is 4, as after a failed write. Any other status stays.
 pub fn exit_status(status: u8, written: bool) -> u8
     ensures { result ≡ status_after status written }
 {

@@ -15,8 +15,8 @@ mod streams;
 
 ghost use Rattle.std.specs.Prelude.{◌≡◌, map, option_map, string_bytes, IfErr, IfOk, IsTrue};
 ghost use Rattle.either.specs.Either.{is_left};
-ghost use Rattle.link_tools.specs.Options.{IsReady};
-ghost use Rattle.tcpclkit.specs.Ending.{AreWordsFor, MayEnd, names_a_file};
+ghost use Rattle.link_tools.specs.Options.{IfPackHasNewCutter};
+ghost use Rattle.tcpclkit.specs.Ending.{AreWordsForJobAndInput, MayEndWithoutRun, names_a_file};
 
 use either::{Either, Left, Right};
 use ending::{Ending, ending_exit, exit_status};
@@ -62,13 +62,14 @@ fn run(rt: &HostRuntime) -> Ending {
 /// Returns the tool that these words ask for, and its input, or the ending of a call without a run.
 ///
 /// The first word is the program's own name.
-// Out of line, so that its locals are gone when the tool runs: its stack has to fit beside them.
+// Not inlined. Otherwise its locals would take up stack while the tool runs.
 #[inline(never)]
 fn request(rt: &HostRuntime, words: &[String]) -> Result<(Job, Either<File, Stdin>), Ending>
     ensures ok { IfOk result
-        (λ request. AreWordsFor (map string_bytes words.now) request.0 (is_left request.1)) }
-    ensures ready { IfOk result (λ request. IsReady request.0) }
-    ensures err { IfErr result (MayEnd (map string_bytes words.now)) }
+        (λ request. AreWordsForJobAndInput (map string_bytes words.now) request.0
+        (is_left request.1)) }
+    ensures ready { IfOk result (λ request. IfPackHasNewCutter request.0) }
+    ensures err { IfErr result (MayEndWithoutRun (map string_bytes words.now)) }
 {
     let invocation = match options(rt.alloc(), words) {
         Ok(invocation) => invocation,

@@ -3,7 +3,7 @@
 ghost use Rattle.std.specs.Prelude.{◌≡◌, [], false, Err, IfOk, IfErr, IsOkAnd};
 ghost use Rattle.std.specs.IoError.{error_kind};
 ghost use Rattle.link_run.specs.Run.{devices, looks, NoneFailed};
-ghost use Rattle.link_tools.specs.Options.{IsReady};
+ghost use Rattle.link_tools.specs.Options.{IfPackHasNewCutter};
 ghost use Rattle.tcpclkit.specs.BufferedEnd.{AfterBufferedRun, HandsOn};
 
 use crate::ending::after_flush;
@@ -90,7 +90,7 @@ pub fn run_over<R: Read + Drop, W: Write + Drop, E: Write + Drop>(
     job: Job,
     streams: io::Result<Streams<R, W, E>>,
 ) -> Result<BufferedEnd<R, W, E>, IoFault>
-    requires ready { IsReady job }
+    requires ready { IfPackHasNewCutter job }
     requires sound { IfOk streams (λ streams. NoneFailed
         (looks ⟦<BufferedReader<R> as InDevice>⟧.state
         ⟦<TextWriter<Writer<W>> as OutDevice>⟧.state
@@ -118,7 +118,7 @@ pub fn run_buffered<R: Read + Drop, W: Write + Drop, E: Write + Drop>(
     job: Job,
     streams: Streams<R, W, E>,
 ) -> BufferedEnd<R, W, E>
-    requires ready { IsReady job }
+    requires ready { IfPackHasNewCutter job }
     requires sound { NoneFailed
         (looks ⟦<BufferedReader<R> as InDevice>⟧.state
         ⟦<TextWriter<Writer<W>> as OutDevice>⟧.state

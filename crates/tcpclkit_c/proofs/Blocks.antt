@@ -6,9 +6,9 @@ use Rattle.std.proofs.Math.Seq.{drop-append_seam}
 use Rattle.link_cbor.specs.{PieceLaws.{takes_shortest, taken-idle, taken-nil}, Pieces.taken}
 use Rattle.link_bundle.specs.declared.scan.BundleScan.{BundleScan}
 use Rattle.link_bundle_blocks.specs.{Blocks.Block, Bundle.{bundle_goes, blocks_in}}
-use Rattle.link_bundle.specs.Scan.{HasScanned, Advances, AddsBlock, ending}
+use Rattle.link_bundle.specs.Scan.{HasScanned, Advances, EndsBlockOnlyAtLastByte, ending}
 use Rattle.link_bundle.proofs.Endings.{none_sooner}
-use Rattle.tcpclkit_c.specs.NextBlock.{goes_in_block, added, TakesBlock}
+use Rattle.tcpclkit_c.specs.NextBlock.{goes_in_block, added, TakesToBlockEnd}
 
 -- more bytes are not needed, or a block has ended
 stops_of : (seen bytes : List ℕ) (last : List Block) → blocks_in bytes ≡ blocks_in seen ++ last
@@ -40,7 +40,7 @@ none_taken seen piece why =
 
 pub takes_none : (scan : BundleScan) (piece : List ℕ)
     → ((seen : List ℕ) → HasScanned scan seen → (piece ≡ []) ⊎ (bundle_goes seen ≡ false))
-    → TakesBlock scan scan piece 0
+    → TakesToBlockEnd scan scan piece 0
 takes_none scan piece why = record {
   within = omega arith;
   seen = λ seen come. rw (none_taken seen piece (why seen come), append-nil seen) come;
@@ -50,7 +50,7 @@ takes_none scan piece why = record {
 }
 
 module _ (old new : BundleScan) (piece : List ℕ) (count : ℕ)
-    (advances : Advances old new piece count) (adds : AddsBlock old new piece count)
+    (advances : Advances old new piece count) (adds : EndsBlockOnlyAtLastByte old new piece count)
     (stops : (seen : List ℕ) → HasScanned old seen → ending new ≡ [] → count < length piece
     → bundle_goes (seen ++ take count piece) ≡ false) where
   front_size : length (take count piece) ≡ count
@@ -79,7 +79,7 @@ module _ (old new : BundleScan) (piece : List ℕ) (count : ℕ)
             (cases_lt count (length piece));
       })
 
-  pub takes_some : TakesBlock old new piece count
+  pub takes_some : TakesToBlockEnd old new piece count
   takes_some = record {
     within = advances.within;
     seen = λ seen come. rw (← block_taken seen come) (advances.seen seen come);

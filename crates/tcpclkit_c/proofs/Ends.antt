@@ -7,7 +7,7 @@ use Rattle.link_bundle_types.specs.declared.fault.State.TheVariants as state
 use Rattle.link_bundle_types.specs.{declared.info.BundleInfo.BundleInfo, Faults.lasts}
 use Rattle.link_bundle_blocks.specs.Bundle.{Bundle, judged_bundle, verdict_by, verdict, payload_of, payload_seen, state_of, is_going, bundle_goes}
 use Rattle.link_bundle_blocks.specs.Reading.{Stop}
-use Rattle.link_bundle_blocks.proofs.{Lengths.TrailingLasts-holds, Payloads.{PayloadLasts-holds, EndedPayloadStays-holds}}
+use Rattle.link_bundle_blocks.proofs.{Lengths.ByteAfterBundleIsTrailing-holds, Payloads.{PayloadLasts-holds, PayloadStaysAfterBundleEnd-holds}}
 use Rattle.link_bundle.specs.{Scan.{HasScanned, HasJudged}, Stages.takes_bytes}
 use Rattle.link_bundle.specs.declared.scan.BundleScan.{BundleScan}
 use Rattle.link_bundle.proofs.Verdicts.{state_of-seen}
@@ -51,13 +51,13 @@ module _ (seen : List ℕ) (info : BundleInfo) where
   trails (Err stop) is good byte more = absurd (never (stop.fault, stop.offset) good)
   trails (Ok bundle) is good byte more =
       let outcome : verdict (seen ++ byte ∷ more) ≡ Err (Trailing, length seen) =
-      TrailingLasts-holds seen more byte info (ap verdict_by is ∙ good) in
+      ByteAfterBundleIsTrailing-holds seen more byte info (ap verdict_by is ∙ good) in
       let place = ap payload_of is in
       let spans : payload_seen (seen ++ byte ∷ more) ≡ payload_seen seen =
       rw (
         PayloadLasts-holds seen (byte ∷ more) bundle.payload_span place,
         place,
-        EndedPayloadStays-holds seen (byte ∷ more) (ap (λ now. is_going (state_of (verdict_by now))) is),
+        PayloadStaysAfterBundleEnd-holds seen (byte ∷ more) (ap (λ now. is_going (state_of (verdict_by now))) is),
       ) refl in
       record { numbers = rw (outcome, spans) refl; answers = rw outcome refl }
 

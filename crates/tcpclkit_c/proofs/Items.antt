@@ -2,7 +2,7 @@
 use Rattle.std.proofs.Common.{◌≡◌, ℕ, zero, suc, ◌+◌, ◌-◌, ◌<◌, eqb, false, List, [], ◌∷◌, ◌++◌, Option, Some, None, Ok, Err, refl, ap, sym, append-nil, append_assoc, arith}
 use Rattle.std.proofs.lemmas.Bool.{ne_eqb}
 use Rattle.link_wire.specs.Part.{Part, ◌>>=◌, number_at}
-use Rattle.link_wire.specs.Message.{item_head_at, total_at, items_at, items_of, TotalFits}
+use Rattle.link_wire.specs.Message.{item_head_at, total_at, items_at, items_of, HasTotalIfLengthItem}
 use Rattle.link_wire.specs.InSlice.{head_of}
 use Rattle.link_wire.specs.declared.fault.WireFault.{WireFault}
 use Rattle.link_wire.specs.declared.message.{Item.Item, ListOf.TheVariants.Transfer}
@@ -89,7 +89,7 @@ module _ (before : List Item) where
 
 -- the total of a Transfer Length item is kept
 pub has_total : (item : Item) (value rest : List ℕ)
-    → total_at Transfer item.kind item.length value ≡ Ok (item.total, rest) → TotalFits item
+    → total_at Transfer item.kind item.length value ≡ Ok (item.total, rest) → HasTotalIfLengthItem item
 unfolding total_at
 has_total item value rest is kind size =
     let total = both_read (number_at 8 value) _ _ (rw (kind, size) at is) in

@@ -25,7 +25,8 @@ abbrev pub announced_part : Part (ArrayVec Item) → Option Announced
 announced_part (Ok (items, rest)) = Some (announced_of items.items)
 announced_part (Err fault) = None
 
--- the numbers of the announcement are returned, or TCPCLKIT_RANGE if the bytes are no list
+-- The numbers of the announcement are returned, with TCPCLKIT_OK. If the bytes are no list, nothing
+-- is written, and the status is TCPCLKIT_RANGE.
 abbrev pub ReturnsAnnounced : Option Announced → (old new : AnnouncedNumbers) → ℕ → Type 0
 ReturnsAnnounced None old new status = (status ≡ 6) × (new ≡ old)
 ReturnsAnnounced (Some announced) old new status = (status ≡ 0) × (new ≡ announced_shown announced)

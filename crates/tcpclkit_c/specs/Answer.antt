@@ -1,7 +1,7 @@
 -- What the export that judges answers to a transfer returns.
 use Rattle.std.specs.Prelude.{◌≡◌, ℕ, ◌==◌, nat_lt, List, ◌∷◌, Option, Some, None, Result, Ok, Err, if◌then◌else◌}
 use Rattle.link_wire.specs.declared.message.Fields.{Fields}
-use Rattle.link_transfer_answer_judge.specs.Answers.{answer_of, judged_answer, after_answer, IsAcknowledgedByAnswers}
+use Rattle.link_transfer_answer_judge.specs.Answers.{answer_of, judged_answer, after_answer, HasLengthOfLastAck}
 use Rattle.link_transfer_answer_judge.specs.declared.answers.{Answer.Answer, AnswerFault.AnswerFault, Sent.Sent}
 use Rattle.link_ffi_numbers.specs.Fault.{answer_code}
 use Rattle.link_ffi_numbers.specs.declared.recording.Message.{Message}
@@ -20,33 +20,33 @@ sent_by sent =
     })
 
 -- the message is this answer
-pub record IsAnswerMessage (it : Message) (answer : Answer) : Type 0 where
+pub record IsMessageOfAnswer (it : Message) (answer : Answer) : Type 0 where
   pub fields : Fields
   pub has : HasFields it fields
   pub is : answer_of fields ≡ Some answer
 
 -- the message is no answer
-abbrev pub IsNoAnswer : Message → Type 0
-IsNoAnswer it = (answer : Answer) → IsAnswerMessage it answer → ⊥
+abbrev pub IsNotAnswerMessage : Message → Type 0
+IsNotAnswerMessage it = (answer : Answer) → IsMessageOfAnswer it answer → ⊥
 
 -- the message is this answer, or no answer if the `Option` is `None`
-abbrev pub IsAnswerOrNone : Message → Option Answer → Type 0
-IsAnswerOrNone it (Some answer) = IsAnswerMessage it answer
-IsAnswerOrNone it None = IsNoAnswer it
+abbrev pub IsThisAnswerOrNoAnswer : Message → Option Answer → Type 0
+IsThisAnswerOrNoAnswer it (Some answer) = IsMessageOfAnswer it answer
+IsThisAnswerOrNoAnswer it None = IsNotAnswerMessage it
 
 -- the code of what is wrong with an answer, and TCPCLKIT_OK or TCPCLKIT_FAULT
 abbrev pub answer_numbers : Result (Unit {0}) AnswerFault → ℕ × ℕ
 answer_numbers (Ok _) = (0, 0)
 answer_numbers (Err fault) = (answer_code fault, 4)
 
--- An answer was judged by what was sent, and counted if it was accepted. `older` are the answers
--- that were accepted before, the newest first.
-pub record ReturnsJudgedAnswer (before : Sent) (answer : Answer) (old new : SentNumbers) (status : ℕ)
-    : Type 0 where
+-- An answer was judged by what was sent. If it was accepted, it was counted, and the status is
+-- TCPCLKIT_OK. `older` are the answers that were accepted before, the newest first.
+pub record ReturnsJudgedPeerAnswer (before : Sent) (answer : Answer) (old new : SentNumbers)
+    (status : ℕ) : Type 0 where
   pub numbers : new ≡ record old {
     acknowledged = (after_answer before answer).acknowledged;
     fault = (answer_numbers (judged_answer before answer)).0;
   }
   pub returns : status ≡ (answer_numbers (judged_answer before answer)).1
-  pub counts : (older : List Answer) → IsAcknowledgedByAnswers before older → status ≡ 0
-      → IsAcknowledgedByAnswers (after_answer before answer) (answer ∷ older)
+  pub counts : (older : List Answer) → HasLengthOfLastAck before older → status ≡ 0
+      → HasLengthOfLastAck (after_answer before answer) (answer ∷ older)

@@ -7,7 +7,7 @@ use Rattle.link_tool_pack.specs.Packing.{pack_tool}
 use Rattle.link_tool_pack.specs.declared.more.MoreOptions.{MoreOptions}
 use Rattle.link_run.specs.Run.{Tool}
 use Rattle.link_transfer.specs.declared.cutter.Cutter.{Cutter}
-use Rattle.link_ffi_tools.specs.Options.{pack_numbers, HasOptions, more_numbers}
+use Rattle.link_ffi_tools.specs.Options.{pack_numbers, IsPackOptionsByNumbers, more_numbers}
 use Rattle.link_ffi_tools.specs.Tool.{Slices, ReturnsTexts, ReturnsNothing}
 use Rattle.link_ffi_tools.specs.declared.options.{MoreNumbers.MoreNumbers, PackNumbers.PackNumbers}
 use Rattle.link_ffi_tools.specs.declared.running.Run.{Run}
@@ -18,12 +18,12 @@ abbrev pub tool_with : Result Cutter AllocError → Tool → Option Tool
 tool_with (Ok cutter) tool = Some tool
 tool_with (Err refused) tool = None
 
--- The bundles were packed with these options, and the texts are returned as by the other tools. Or
--- nothing was written, and the status is TCPCLKIT_MEMORY.
-pub record ReturnsPacked (words node bytes : List ℕ) (wants : Wants) (old new : Slices) (run : Run)
-    (status : ℕ) : Type 0 where
+-- The bundles were packed with the options in `words`, and the texts are returned as by the other
+-- tools. Or no text was written, and the status is TCPCLKIT_MEMORY.
+pub record ReturnsPackTexts (words node bytes : List ℕ) (wants : Wants) (old new : Slices)
+    (run : Run) (status : ℕ) : Type 0 where
   pub options : PackOptions
-  pub are : HasOptions options (pack_numbers words) node
+  pub are : IsPackOptionsByNumbers options (pack_numbers words) node
   pub gave : ReturnsTexts ((pack_tool options).whole bytes) wants old new run status
       ⊎ ReturnsNothing old new run status
 
@@ -41,15 +41,15 @@ packed_by numbers =
     }
 
 -- the options have these numbers
-pub record HasMoreOptions (options : MoreOptions) (numbers : MoreNumbers) : Type 0 where
+pub record IsPackMoreOptionsByNumbers (options : MoreOptions) (numbers : MoreNumbers) : Type 0 where
   pub first : options.first ≡ numbers.first
-  pub pack : HasOptions options.pack (packed_by numbers) []
+  pub pack : IsPackOptionsByNumbers options.pack (packed_by numbers) []
 
--- The segments of the bundles were written with these options, and the texts are returned as by
--- `ReturnsPacked`.
-pub record ReturnsMore (words bytes : List ℕ) (wants : Wants) (old new : Slices) (run : Run)
-    (status : ℕ) : Type 0 where
+-- The segments of the bundles were written with the options in `words`, and the texts are returned
+-- as by the other tools. Or no text was written, and the status is TCPCLKIT_MEMORY.
+pub record ReturnsPackMoreTexts (words bytes : List ℕ) (wants : Wants) (old new : Slices)
+    (run : Run) (status : ℕ) : Type 0 where
   pub options : MoreOptions
-  pub are : HasMoreOptions options (more_numbers words)
+  pub are : IsPackMoreOptionsByNumbers options (more_numbers words)
   pub gave : ReturnsTexts ((more_tool options).whole bytes) wants old new run status
       ⊎ ReturnsNothing old new run status

@@ -10,7 +10,7 @@ use Rattle.link_bundle_blocks.specs.PrimaryFields.{primary_fields}
 use Rattle.link_ffi_numbers.specs.Block.{no_block, cut_shown}
 use Rattle.link_ffi_numbers.specs.Bundle.{state_status, ReturnsVerdict}
 use Rattle.link_ffi_numbers.specs.declared.block.BlockNumbers.{BlockNumbers}
-use Rattle.tcpclkit_c.specs.Bundle.{Names, ReturnsInfo}
+use Rattle.tcpclkit_c.specs.Bundle.{Names, ReturnsBundleOrFault}
 use Rattle.tcpclkit_c.specs.contracts.scan.MarkedScan.{the_row}
 use Rattle.link_ffi_numbers.specs.declared.bundle.Bundle.{Bundle}
 use Rattle.link_ffi_numbers.specs.declared.bundle.Verdict.{Verdict}
@@ -36,15 +36,16 @@ abbrev pub HoldsScan : Ptr → List ℕ → Fml
 HoldsScan at seen = ReadsScan full_share at seen
 
 -- what a call that only reads a scan is lent: a share of the scan, which has seen these bytes
-pub record LentScan : Type 0 where
+pub record ScanLoan : Type 0 where
   pub share : Share
   pub seen : List ℕ
 
--- whether a scan that has seen some bytes may see the next piece too
+-- whether the bytes seen and the next piece together are at most 2^63 - 1
 abbrev pub has_room : (seen piece : List ℕ) → Bool
 has_room seen piece = nat_le (length seen + length piece) (2 ^ 63 - 1)
 
--- the bytes that a scan takes of the next piece: those up to the bundle's end or its first fault
+-- The bytes of the next piece that a scan takes, up to the end of the bundle or its first fault.
+-- Without room for the whole piece, it takes none.
 abbrev pub fed : (seen piece : List ℕ) → List ℕ
 fed seen piece = if has_room seen piece then taken bundle_goes seen piece else []
 
@@ -59,11 +60,12 @@ status_after seen piece run =
     if has_room seen piece
     then (if is_late seen piece then 9 else state_status (state_of (verdict (seen ++ run)))) else 6
 
--- the status after a scan has taken its bytes of the next piece
+-- the status after a scan took the bytes `fed` of the next piece
 abbrev pub fed_status : (seen piece : List ℕ) → ℕ
 fed_status seen piece = status_after seen piece (fed seen piece)
 
--- a scan that had seen some bytes has taken its bytes of the next piece
+-- A scan that had seen `seen` took the bytes `fed` of the next piece. `taken` is their number, and
+-- `status` is the status after them.
 pub record Feeds (seen piece : List ℕ) (scan : MarkedScan) (taken status : ℕ) : Type 0 where
   pub scanned : IsMarkedScanAt scan (seen ++ fed seen piece)
   pub counts : taken ≡ length (fed seen piece)
@@ -75,47 +77,55 @@ abbrev pub may_end : (seen : List ℕ) → ℕ → Bool
 may_end seen count =
     (count == length seen) || (nat_lt (length seen) count && not (bundle_goes seen))
 
--- The verdict on `count` bytes, which are those seen and any after them. If `may_end` is false, the
--- status is TCPCLKIT_RANGE.
+-- What is returned for `count` bytes: the verdict on the bytes seen and the bytes after them
+-- (`rest`), whatever `rest` contains. If `may_end` is false, nothing is written, and the status is
+-- TCPCLKIT_RANGE.
 pub record EndsScan (seen : List ℕ) (count : ℕ) (old new : Verdict) (status : ℕ) : Type 0 where
   pub range : may_end seen count ≡ false → (status ≡ 6) × (new ≡ old)
   pub gives : may_end seen count ≡ true → (rest : List ℕ) → length (seen ++ rest) ≡ count
       → ReturnsVerdict (seen ++ rest) new status
 
--- the block in whose data or check field the bytes seen end, or TCPCLKIT_END
-pub record ReturnsCut (seen : List ℕ) (block : BlockNumbers) (status : ℕ) : Type 0 where
+-- the block in whose data or check field the seen bytes end, and TCPCLKIT_OK; or no block, and
+-- TCPCLKIT_END
+pub record ReturnsCutBlock (seen : List ℕ) (block : BlockNumbers) (status : ℕ) : Type 0 where
   pub numbers : block ≡ cut_shown (length seen) (cut_block_in seen)
   pub gives : status ≡ (if is_some (cut_block_in seen) then 0 else 1)
 
 -- ---- memory that may have no scan
 
--- `Feeds` for memory that may have no scan; without the mark, the answer is TCPCLKIT_RANGE
-pub record FeedsMarkedScan (old : MarkedScan) (piece : List ℕ) (new : MarkedScan)
+-- `Feeds` for memory that may have no scan. Without the mark, no byte is taken, and the status is
+-- TCPCLKIT_RANGE.
+pub record FeedsScanIfAny (old : MarkedScan) (piece : List ℕ) (new : MarkedScan)
     (taken status : ℕ) : Type 0 where
   pub scan : (seen : List ℕ) → IsMarkedScanAt old seen → Feeds seen piece new taken status
   pub other : (old.mark ≡ mark → ⊥) → (status ≡ 6) × (taken ≡ 0) × (new ≡ old)
 
--- the verdict on the bytes seen; without the mark, nothing is written
-pub record JudgesMarked (held : MarkedScan) (old new : Verdict) (status : ℕ) : Type 0 where
+-- The verdict on the bytes seen is returned. Without the mark, nothing is written, and the status
+-- is TCPCLKIT_RANGE.
+pub record JudgesIfAnyScan (held : MarkedScan) (old new : Verdict) (status : ℕ) : Type 0 where
   pub scan : (seen : List ℕ) → IsMarkedScanAt held seen → ReturnsVerdict seen new status
   pub other : (held.mark ≡ mark → ⊥) → (status ≡ 6) × (new ≡ old)
 
--- The memory had a scan before the call, and the verdict is as `EndsScan` says. Without the mark,
--- nothing is written.
-pub record EndsMarkedScan (held : MarkedScan) (count : ℕ) (old new : Verdict) (status : ℕ)
+-- `EndsScan` for memory that may have no scan. Without the mark, nothing is written, and the status
+-- is TCPCLKIT_RANGE.
+pub record EndsScanIfAny (held : MarkedScan) (count : ℕ) (old new : Verdict) (status : ℕ)
     : Type 0 where
   pub scan : (seen : List ℕ) → IsMarkedScanAt held seen → EndsScan seen count old new status
   pub other : (held.mark ≡ mark → ⊥) → (status ≡ 6) × (new ≡ old)
 
--- the block in which the bytes seen end; without the mark, no block is written
-pub record JudgesMarkedBlock (held : MarkedScan) (block : BlockNumbers) (status : ℕ) : Type 0 where
-  pub scan : (seen : List ℕ) → IsMarkedScanAt held seen → ReturnsCut seen block status
+-- `ReturnsCutBlock` for memory that may have no scan. Without the mark, no block is written, and
+-- the status is TCPCLKIT_RANGE.
+pub record ReturnsCutBlockIfAnyScan (held : MarkedScan) (block : BlockNumbers) (status : ℕ)
+    : Type 0 where
+  pub scan : (seen : List ℕ) → IsMarkedScanAt held seen → ReturnsCutBlock seen block status
   pub other : (held.mark ≡ mark → ⊥) → (status ≡ 6) × (block ≡ no_block)
 
--- the verdict and the fields of the bytes seen; without the mark, nothing is written
-pub record DescribesMarked (held : MarkedScan) (old_names names : Names) (old new : Bundle)
+-- The verdict, the fields and the names of the seen bytes are returned. Without the mark, nothing
+-- is written, and the status is TCPCLKIT_RANGE.
+pub record DescribesIfAnyScan (held : MarkedScan) (old_names names : Names) (old new : Bundle)
     (status : ℕ) : Type 0 where
   pub scan : (seen : List ℕ) → IsMarkedScanAt held seen
-      → ReturnsInfo (verdict seen) (payload_seen seen) (primary_fields seen) old_names names new
+      → ReturnsBundleOrFault (verdict seen) (payload_seen seen)
+      (primary_fields seen) old_names names new
       status
   pub other : (held.mark ≡ mark → ⊥) → (status ≡ 6) × (new ≡ old) × (names ≡ old_names)

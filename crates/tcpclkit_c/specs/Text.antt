@@ -24,7 +24,7 @@ answer_text answer.LengthFalls = codes "acknowledged length falls"
 answer_text answer.LengthNotSent = codes "acknowledged length was not sent"
 answer_text answer.EndTooEarly = codes "end without the whole transfer"
 
--- the words of a fault; those of a bundle begin with its code
+-- The words of a fault. The code of a bundle's fault comes before them.
 abbrev pub named_text : Named → List ℕ
 named_text (named.Wire fault) = wire_text fault
 named_text (named.Order fault) = order_text fault
@@ -47,22 +47,23 @@ reason_text_by kind reason =
     option_and_then (λ of. if nat_lt reason 256 then Some (name_of of reason) else None)
     (reason_of_by kind)
 
--- whether these are a primary block (kind 1), a canonical block (kind 2), and the number of bytes
--- of the data of the canonical block
+-- Whether these are a primary block (kind 1), a canonical block (kind 2), and the number of bytes
+-- of the canonical block's data. The data ends at an offset of at most 2^64 - 1.
 abbrev pub is_data_of : (primary block : BlockNumbers) → (size : ℕ) → Bool
 is_data_of primary block size =
     primary.kind == 1 && (block.kind == 2 && (block.data_length == size
     && nat_le block.data_offset (2 ^ 64 - 1 - block.data_length)))
 
--- the words that the line of the block ends with, after their first space; none if its data is not
--- read
+-- The words that the line of a block ends with, without the space before them. There are none if
+-- the block's data is not read.
 abbrev pub data_words : (primary block : BlockNumbers) → (content : List ℕ) → List ℕ
 data_words primary block content =
     drop 1 (words_text block.data_offset
     (option_map (λ kind. data_of kind content) (kind_of primary.flags block.block_type)))
 
 -- The slice begins with the text, or with as much of it as fits. `written` is the number of these
--- bytes, and the bytes after them are as they were.
+-- bytes, and the bytes after them are as they were. The status is TCPCLKIT_OK if the whole text
+-- fits, and else TCPCLKIT_TOO_SMALL.
 pub record ReturnsThisText (text old slice : List ℕ) (written status : ℕ) : Type 0 where
   pub front : HoldsPrefix slice text
   pub rest : LeavesRest old slice text

@@ -31,7 +31,8 @@ fn announced_shown(announced: Announced) -> AnnouncedNumbers
     }
 }
 
-/// What the items of a transfer's list of `size` bytes announce, or `None` if they are no list.
+/// Reads what a transfer's list of items announces. The list is the `size` bytes from `start` on.
+/// Returns `None` if these bytes are no list.
 fn announced_in(bytes: &[u8], start: usize, size: u32) -> Option<Announced>
     requires { start ≤ length bytes.now }
     ensures { result ≡ announced_part (items_of Transfer size (drop start bytes.now)) }
@@ -46,7 +47,7 @@ fn announced_in(bytes: &[u8], start: usize, size: u32) -> Option<Announced>
         match item_in(bytes, at, left, ListOf::Transfer) {
             Ok(found) => {
                 at = found.value + usize::from(found.item.length);
-                // It never saturates: the item ends within the list.
+                // Five bytes precede the value. The item ends in the list, so this never saturates.
                 left = left.saturating_sub(5 + u32::from(found.item.length));
                 items.push(found.item);
             }
@@ -65,8 +66,8 @@ fn may_announce(bytes: &[u8], message: &Message) -> bool
 
 /// Reads the length that a segment announces, and returns `OK`.
 ///
-/// Writes nothing and returns `RANGE` if [`may_announce`] is false, or if the bytes there are no
-/// list of items.
+/// Writes nothing and returns `RANGE` if [`may_announce`] is false, or if the bytes from
+/// `message.items_offset` on are no list of items.
 #[unsafe(no_mangle)]
 pub extern "C" fn tcpclkit_raw_read_announced(
     bytes: &[u8],

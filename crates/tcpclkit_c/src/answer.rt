@@ -2,7 +2,7 @@
 
 ghost use Rattle.std.specs.Prelude.{◌≡◌, Some, None};
 ghost use Rattle.link_transfer_answer_judge.specs.declared.answers.{Answer.Answer, Sent.Sent};
-ghost use Rattle.tcpclkit_c.specs.Answer.{sent_by, answer_numbers, IsAnswerOrNone, IsAnswerMessage, IsNoAnswer, ReturnsJudgedAnswer};
+ghost use Rattle.tcpclkit_c.specs.Answer.{sent_by, answer_numbers, IsThisAnswerOrNoAnswer, IsMessageOfAnswer, IsNotAnswerMessage, ReturnsJudgedPeerAnswer};
 
 use link_ffi_numbers::fault::answer_code;
 use link_ffi_numbers::recording::Message;
@@ -43,7 +43,7 @@ fn sent_by(sent: &SentNumbers) -> Option<Sent>
 
 /// The answer that a message is, or `None` if it is neither an XFER_ACK nor an XFER_REFUSE.
 fn answer_by(message: &Message) -> Option<Answer>
-    ensures { IsAnswerOrNone message.now result }
+    ensures { IsThisAnswerOrNoAnswer message.now result }
 {
     let fields = fields_by(message)?;
     Answer::of(fields)
@@ -59,14 +59,18 @@ fn answer_numbers(judged: Result<(), AnswerFault>) -> (u64, u32)
     }
 }
 
-/// Judges an answer to a transfer that is sent. Returns `OK`, `FAULT` if it does not answer what
-/// was sent, or `RANGE` if the message is no answer or `whole` is above 1.
+/// Judges an answer to a transfer that is sent. Writes the code of the answer's fault, or 0, to
+/// `sent`. If an XFER_ACK is accepted, writes its length too.
+///
+/// Returns `OK`, or `FAULT` if the answer has a fault. If the message is no answer, or `whole` is
+/// above 1, changes nothing and returns `RANGE`.
 #[unsafe(no_mangle)]
 pub extern "C" fn tcpclkit_raw_judge_answer(sent: &mut SentNumbers, message: &Message) -> u32
     ensures answer { (before : Sent) (answer : Answer) → sent_by sent.old ≡ Some before
-        → IsAnswerMessage message.now answer → ReturnsJudgedAnswer before answer sent.old sent.new result }
+        → IsMessageOfAnswer message.now answer
+        → ReturnsJudgedPeerAnswer before answer sent.old sent.new result }
     ensures whole { sent_by sent.old ≡ None → (result ≡ 6) × (sent.new ≡ sent.old) }
-    ensures range { IsNoAnswer message.now → (result ≡ 6) × (sent.new ≡ sent.old) }
+    ensures range { IsNotAnswerMessage message.now → (result ≡ 6) × (sent.new ≡ sent.old) }
 {
     let Some(mut its) = sent_by(sent) else {
         return RANGE;

@@ -7,7 +7,7 @@ ghost use Rattle.link_bundle.specs.Scan.{HasJudged};
 ghost use Rattle.link_bundle_blocks.specs.PrimaryFields.{primary_fields};
 ghost use Rattle.link_bundle_blocks.specs.PrimaryView.{viewed_fields};
 ghost use Rattle.link_ffi_numbers.specs.Bundle.{state_status, verdict_shown, ReturnsVerdict};
-ghost use Rattle.tcpclkit_c.specs.Bundle.{three_names, ReturnsNames, names_status, ReturnsBundle, ReturnsBadBundle, ReturnsInfo};
+ghost use Rattle.tcpclkit_c.specs.Bundle.{three_names, CopiesNames, names_status, ReturnsBundle, ReturnsBadBundle, ReturnsBundleOrFault};
 
 use link_bundle::{BundleScan, BundleView, State};
 use link_bundle_blocks::PrimaryView;
@@ -54,7 +54,7 @@ fn give_names(
     source_name: &mut [u8],
     report_to_name: &mut [u8],
 ) -> u32
-    ensures names { ReturnsNames
+    ensures names { CopiesNames
         (three_names destination.now source.now report_to.now)
         (three_names destination_name.old source_name.old report_to_name.old)
         (three_names destination_name.new source_name.new report_to_name.new) }
@@ -98,9 +98,10 @@ fn give_good(
     )
 }
 
-/// Writes the fields and the names before the first fault, and returns the status of this state.
+/// Writes the fields and the names before the first fault, and returns the status of `state`.
 ///
-/// The length of a name is that of its bytes in the slice: the status does not say that it is cut.
+/// A name that does not fit in its slice is cut, and `answer` gets its length after the cut. The
+/// status is never `TOO_SMALL`.
 fn give_bad(
     state: State,
     verdict: Verdict,
@@ -146,7 +147,7 @@ pub(crate) fn give_info(
     answer: &mut Bundle,
 ) -> u32
     ensures { (bytes : List ℕ) → HasJudged scan.now bytes
-        → ReturnsInfo (verdict bytes) (payload_seen bytes) (viewed_fields primary.now)
+        → ReturnsBundleOrFault (verdict bytes) (payload_seen bytes) (viewed_fields primary.now)
         (three_names destination_name.old source_name.old report_to_name.old)
         (three_names destination_name.new source_name.new report_to_name.new)
         answer.new result }
@@ -177,8 +178,8 @@ pub(crate) fn give_info(
 /// Judges the bytes as one bundle, and writes the verdict, and the fields and names that were
 /// accepted.
 ///
-/// Returns `OK` for a good bundle, or `TOO_SMALL` if a name of it does not fit in its slice. Else
-/// returns `TRUNCATED` or `FAULT`, also if a name does not fit.
+/// For a good bundle, returns `OK`, or `TOO_SMALL` if a name does not fit in its slice. For other
+/// bytes, returns `TRUNCATED` or `FAULT`, whether the names fit or not.
 #[unsafe(no_mangle)]
 pub extern "C" fn tcpclkit_raw_describe_bundle(
     bytes: &[u8],
@@ -187,7 +188,8 @@ pub extern "C" fn tcpclkit_raw_describe_bundle(
     report_to_name: &mut [u8],
     answer: &mut Bundle,
 ) -> u32
-    ensures { ReturnsInfo (verdict bytes.now) (payload_seen bytes.now) (primary_fields bytes.now)
+    ensures { ReturnsBundleOrFault (verdict bytes.now) (payload_seen bytes.now)
+        (primary_fields bytes.now)
         (three_names destination_name.old source_name.old report_to_name.old)
         (three_names destination_name.new source_name.new report_to_name.new)
         answer.new result }

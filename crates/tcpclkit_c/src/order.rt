@@ -20,10 +20,11 @@ pub extern "C" fn tcpclkit_raw_start_order(order: &mut Order) -> u32
     OK
 }
 
-/// Judges whether a message may come now.
+/// Judges whether a message is in order.
 ///
-/// If it may, returns `OK`, and `order` then counts the message. If it may not, returns `FAULT`. If
-/// a number is out of its range, returns `RANGE`. Neither `FAULT` nor `RANGE` changes `order`.
+/// If it is, returns `OK`, `order` counts the message, and `answer` gets what the message does. If
+/// it is out of order, returns `FAULT`, and `answer` gets only the code of the fault. If a number
+/// is out of its range, returns `RANGE`. Neither `FAULT` nor `RANGE` changes `order`.
 #[unsafe(no_mangle)]
 pub extern "C" fn tcpclkit_raw_judge_message(
     order: &mut Order,
@@ -46,10 +47,11 @@ pub extern "C" fn tcpclkit_raw_judge_message(
     judge(order, event_by(message), answer)
 }
 
-/// Takes a message as `unpack --keep-going` does, even if it may not come.
+/// Takes a message as `unpack --keep-going` does, even if the message is out of order.
 ///
-/// Returns `OK`, or `FAULT` if it may not come. If a number is out of its range, changes nothing
-/// and returns `RANGE`.
+/// Returns `OK`, or `FAULT` if the message is out of order. `answer` gets the code of the fault, or
+/// 0, and what the message does. If a number is out of its range, changes nothing and returns
+/// `RANGE`.
 #[unsafe(no_mangle)]
 pub extern "C" fn tcpclkit_raw_take_message(
     order: &mut Order,

@@ -10,9 +10,9 @@ ghost use Rattle.link_bundle_blocks.specs.Bundle.{verdict, payload_seen, state_o
 ghost use Rattle.link_bundle.specs.Scan.{HasScanned, scan_size};
 ghost use Rattle.link_bundle_blocks.specs.PrimaryFields.{primary_fields};
 ghost use Rattle.link_ffi_numbers.specs.Bundle.{verdict_shown, state_status, ReturnsVerdict};
-ghost use Rattle.tcpclkit_c.specs.Bundle.{three_names, ReturnsInfo};
-ghost use Rattle.tcpclkit_c.specs.Scan.{IsMarkedScanAt, LentScan, ReadsScan, HoldsScan, mark, has_room, is_late, fed, fed_status, may_end, EndsScan, ReturnsCut, FeedsMarkedScan, JudgesMarked, EndsMarkedScan, JudgesMarkedBlock, DescribesMarked};
-ghost use Rattle.tcpclkit_c.specs.NextBlock.{TakesBlock, fed_block, fed_block_status, added_block, FeedsMarkedBlock};
+ghost use Rattle.tcpclkit_c.specs.Bundle.{three_names, ReturnsBundleOrFault};
+ghost use Rattle.tcpclkit_c.specs.Scan.{IsMarkedScanAt, ScanLoan, ReadsScan, HoldsScan, mark, has_room, is_late, fed, fed_status, may_end, EndsScan, ReturnsCutBlock, FeedsScanIfAny, JudgesIfAnyScan, EndsScanIfAny, ReturnsCutBlockIfAnyScan, DescribesIfAnyScan};
+ghost use Rattle.tcpclkit_c.specs.NextBlock.{TakesToBlockEnd, fed_block, fed_block_status, added_block, FeedsToBlockEndIfAnyScan};
 ghost use Rattle.tcpclkit_c.specs.contracts.scan.MarkedScan.{the_row};
 
 use crate::bundle::{give_info, give_verdict};
@@ -62,7 +62,7 @@ fn new_scan() -> MarkedScan
     }
 }
 
-/// Makes a scan that has seen no byte in the memory, and returns `OK`.
+/// Makes a new scan in the memory, and returns `OK`. The scan has seen no byte.
 #[unsafe(no_mangle)]
 pub unsafe extern "C" fn tcpclkit_raw_start_scan(memory: *mut u64) -> u32
     requires* { sem 𝓛 (room_at the_row memory) }
@@ -73,7 +73,8 @@ pub unsafe extern "C" fn tcpclkit_raw_start_scan(memory: *mut u64) -> u32
     OK
 }
 
-/// Whether the memory has a scan, and the piece does not exceed the limit of an input.
+/// Whether the memory has a scan, and the bytes seen and the piece together do not exceed
+/// `INPUT_LIMIT`.
 fn may_feed(scan: &MarkedScan, piece: &[u8]) -> bool
     ensures scan { (seen : List ℕ) → IsMarkedScanAt scan.now seen
         → result ≡ has_room seen piece.now }
@@ -91,7 +92,8 @@ fn is_late(scan: &BundleScan, piece: &[u8]) -> bool
     !scan.going() && piece.len() > 0
 }
 
-/// The status after a piece: `SCAN_ENDED` if it was `late`, and else the status of the bytes seen.
+/// The status after a piece. It is `SCAN_ENDED` if [`is_late`] was true of the piece (`late`), and
+/// else the status of the bytes seen.
 #[inline(always)]
 fn piece_status(scan: &BundleScan, late: bool) -> u32
     ensures { (seen : List ℕ) → HasScanned scan.now seen
@@ -104,11 +106,12 @@ fn piece_status(scan: &BundleScan, late: bool) -> u32
     }
 }
 
-/// Takes bytes of the piece while more are needed, and returns the status after them.
+/// Takes the bytes of the piece that the scan needs, and writes their number to `taken`. Returns
+/// the status after them.
 ///
 /// If [`may_feed`] is false, takes no byte and returns `RANGE`.
 fn feed(scan: &mut MarkedScan, piece: &[u8], taken: &mut u64) -> u32
-    ensures { FeedsMarkedScan scan.old piece.now scan.new taken.new result }
+    ensures { FeedsScanIfAny scan.old piece.now scan.new taken.new result }
 {
     *taken = 0;
     if !may_feed(scan, piece) {
@@ -122,9 +125,9 @@ fn feed(scan: &mut MarkedScan, piece: &[u8], taken: &mut u64) -> u32
 
 /// Takes the bytes of the piece that belong to the bundle, and writes their number to `taken`.
 ///
-/// Returns `OK`, `TRUNCATED` or `FAULT` for the bytes seen then. Takes no byte and returns
-/// `SCAN_ENDED` if the piece has bytes and the scan needed none, or `RANGE` if [`may_feed`] is
-/// false.
+/// Returns `OK`, `TRUNCATED` or `FAULT` for all bytes that the scan has seen after the call. Takes
+/// no byte and returns `SCAN_ENDED` if the piece has bytes and the scan needed none, or `RANGE` if
+/// [`may_feed`] is false.
 #[unsafe(no_mangle)]
 pub unsafe extern "C" fn tcpclkit_raw_feed_scan(
     memory: *mut u64,
@@ -143,7 +146,7 @@ pub unsafe extern "C" fn tcpclkit_raw_feed_scan(
 /// Takes bytes of the piece while more are needed, up to the end of a block. Returns how many.
 fn take_block(scan: &mut BundleScan, piece: &[u8]) -> usize
     requires { scan_size scan.old + length piece.now ≤ 2 ^ 63 - 1 }
-    ensures { TakesBlock scan.old scan.new piece.now result }
+    ensures { TakesToBlockEnd scan.old scan.new piece.now result }
 {
     if piece.is_empty() || !scan.going() {
         return 0;
@@ -151,12 +154,13 @@ fn take_block(scan: &mut BundleScan, piece: &[u8]) -> usize
     scan.feed_block(piece)
 }
 
-/// Takes bytes of the piece up to the end of a block, and returns the status after them. Writes
-/// this block, or no block if none ends with these bytes.
+/// Takes the bytes of the piece up to the end of the next block, or all that the scan needs if no
+/// block ends in them. Writes their number to `taken`, and returns the status after them.
 ///
-/// If [`may_feed`] is false, takes no byte, writes no block and returns `RANGE`.
+/// Writes the block that ends with these bytes, or no block if none does. If [`may_feed`] is false,
+/// takes no byte, writes no block and returns `RANGE`.
 fn next_block(scan: &mut MarkedScan, piece: &[u8], taken: &mut u64, block: &mut BlockNumbers) -> u32
-    ensures { FeedsMarkedBlock scan.old piece.now scan.new taken.new block.new result }
+    ensures { FeedsToBlockEndIfAnyScan scan.old piece.now scan.new taken.new block.new result }
 {
     *taken = 0;
     if !may_feed(scan, piece) {
@@ -176,10 +180,11 @@ fn next_block(scan: &mut MarkedScan, piece: &[u8], taken: &mut u64, block: &mut 
     piece_status(&scan.scan, late)
 }
 
-/// Takes the bytes of the piece up to the end of a block, and writes their number to `taken`.
+/// Takes the bytes of the piece up to the end of the next block, or all that the scan needs if no
+/// block ends in them. Writes their number to `taken`.
 ///
-/// Writes this block, or no block if none ends with these bytes. Returns a status as
-/// [`tcpclkit_raw_feed_scan`] does.
+/// Writes the block that ends with these bytes, or no block if none does. Returns a status as
+/// [`tcpclkit_raw_feed_scan`] does. If it is `RANGE`, no byte was taken, and no block is written.
 #[unsafe(no_mangle)]
 pub unsafe extern "C" fn tcpclkit_raw_next_block(
     memory: *mut u64,
@@ -202,7 +207,7 @@ pub unsafe extern "C" fn tcpclkit_raw_next_block(
 /// If the memory does not begin with [`MARK`], writes nothing and returns `RANGE`.
 #[tactic(auto, using(link_bundle::proofs::Pieces::all_judged))]
 fn judge(scan: &MarkedScan, answer: &mut Verdict) -> u32
-    ensures { JudgesMarked scan.now answer.old answer.new result }
+    ensures { JudgesIfAnyScan scan.now answer.old answer.new result }
 {
     if scan.mark != MARK {
         return RANGE;
@@ -214,7 +219,7 @@ fn judge(scan: &MarkedScan, answer: &mut Verdict) -> u32
 /// memory has no scan.
 #[unsafe(no_mangle)]
 pub unsafe extern "C" fn tcpclkit_raw_judge_scan(memory: *const u64, answer: &mut Verdict) -> u32
-    ghost lent: { LentScan }
+    ghost lent: { ScanLoan }
     requires* { sem 𝓛 (ReadsScan lent.share memory lent.seen) }
     ensures* scan { sem 𝓛 (ReadsScan lent.share memory lent.seen) }
     ensures status { result ≡ state_status (state_of (verdict lent.seen)) }
@@ -223,7 +228,7 @@ pub unsafe extern "C" fn tcpclkit_raw_judge_scan(memory: *const u64, answer: &mu
     judge(&*(memory as *const MarkedScan), answer)
 }
 
-/// Whether the verdict on `count` bytes is known, of which the scan has seen the first: it has seen
+/// Whether the scan knows the verdict on `count` bytes that begin with the bytes seen: it has seen
 /// all of them, or it needs no more.
 fn may_end(scan: &BundleScan, count: u64) -> bool
     ensures { (seen : List ℕ) → HasScanned scan.now seen → result ≡ may_end seen count }
@@ -232,7 +237,9 @@ fn may_end(scan: &BundleScan, count: u64) -> bool
 }
 
 /// Writes the verdict on the bytes that the scan has seen and more bytes after them (`rest`), which
-/// it did not need. Returns `FAULT`: after a good bundle the fault is `Trailing`.
+/// the scan did not need. Returns `FAULT`.
+///
+/// After a good bundle, the fault is `Trailing`. Otherwise, it is the fault that the scan found.
 fn give_late(scan: &BundleScan, answer: &mut Verdict) -> u32
     ensures { (seen rest : List ℕ) → HasScanned scan.now seen → bundle_goes seen ≡ false
         → 0 < length rest → ReturnsVerdict (seen ++ rest) answer.new result }
@@ -265,7 +272,7 @@ fn give_end(scan: &BundleScan, count: u64, answer: &mut Verdict) -> u32
 /// If the memory does not begin with [`MARK`], or if [`may_end`] is false, writes nothing and
 /// returns `RANGE`.
 fn end(scan: &MarkedScan, count: u64, answer: &mut Verdict) -> u32
-    ensures { EndsMarkedScan scan.now count answer.old answer.new result }
+    ensures { EndsScanIfAny scan.now count answer.old answer.new result }
 {
     if scan.mark != MARK {
         return RANGE;
@@ -276,7 +283,8 @@ fn end(scan: &MarkedScan, count: u64, answer: &mut Verdict) -> u32
     give_end(&scan.scan, count, answer)
 }
 
-/// Writes the verdict on `count` bytes as one bundle: those seen, and those that came after them.
+/// Writes the verdict on `count` bytes as one bundle. They are the bytes that the scan has seen,
+/// and bytes after them that it did not need.
 ///
 /// Returns `OK`, `TRUNCATED` or `FAULT`. If the memory has no scan, or if [`may_end`] is false,
 /// writes nothing and returns `RANGE`.
@@ -286,7 +294,7 @@ pub unsafe extern "C" fn tcpclkit_raw_end_scan(
     count: u64,
     answer: &mut Verdict,
 ) -> u32
-    ghost lent: { LentScan }
+    ghost lent: { ScanLoan }
     requires* { sem 𝓛 (ReadsScan lent.share memory lent.seen) }
     ensures* scan { sem 𝓛 (ReadsScan lent.share memory lent.seen) }
     ensures verdict { EndsScan lent.seen count answer.old answer.new result }
@@ -294,12 +302,12 @@ pub unsafe extern "C" fn tcpclkit_raw_end_scan(
     end(&*(memory as *const MarkedScan), count, answer)
 }
 
-/// Writes the block in whose data or check field the bytes seen end, and returns `OK`.
+/// Writes the block in whose data or check field the seen bytes end, and returns `OK`.
 ///
 /// Writes no block and returns `END` if they end elsewhere, or `RANGE` if the memory does not begin
 /// with [`MARK`].
 fn judge_block(scan: &MarkedScan, block: &mut BlockNumbers) -> u32
-    ensures { JudgesMarkedBlock scan.now block.new result }
+    ensures { ReturnsCutBlockIfAnyScan scan.now block.new result }
 {
     if scan.mark != MARK {
         *block = block_numbers(None);
@@ -310,22 +318,23 @@ fn judge_block(scan: &MarkedScan, block: &mut BlockNumbers) -> u32
     if cut.is_some() { OK } else { END }
 }
 
-/// Writes the block in whose data or check field the bytes seen end, and returns `OK`. Writes no
+/// Writes the block in whose data or check field the seen bytes end, and returns `OK`. Writes no
 /// block and returns `END` if they end elsewhere, or `RANGE` if the memory has no scan.
 #[unsafe(no_mangle)]
 pub unsafe extern "C" fn tcpclkit_raw_judge_block(
     memory: *const u64,
     block: &mut BlockNumbers,
 ) -> u32
-    ghost lent: { LentScan }
+    ghost lent: { ScanLoan }
     requires* { sem 𝓛 (ReadsScan lent.share memory lent.seen) }
     ensures* scan { sem 𝓛 (ReadsScan lent.share memory lent.seen) }
-    ensures block { ReturnsCut lent.seen block.new result }
+    ensures block { ReturnsCutBlock lent.seen block.new result }
 {
     judge_block(&*(memory as *const MarkedScan), block)
 }
 
-/// Writes the verdict on the bytes seen, and the accepted fields, and returns the status.
+/// Writes the verdict on the bytes seen, and the fields and names that were accepted. Returns the
+/// status.
 ///
 /// If the memory does not begin with [`MARK`], writes nothing and returns `RANGE`.
 fn describe(
@@ -335,7 +344,7 @@ fn describe(
     report_to_name: &mut [u8],
     answer: &mut Bundle,
 ) -> u32
-    ensures { DescribesMarked scan.now
+    ensures { DescribesIfAnyScan scan.now
         (three_names destination_name.old source_name.old report_to_name.old)
         (three_names destination_name.new source_name.new report_to_name.new)
         answer.old answer.new result }
@@ -355,9 +364,9 @@ fn describe(
 
 /// Writes the verdict on the bytes seen, and the fields and names that were accepted.
 ///
-/// Returns `OK` for a good bundle, or `TOO_SMALL` if a name of it does not fit in its slice. Else
-/// returns `TRUNCATED` or `FAULT`, also if a name does not fit, or `RANGE` if the memory has no
-/// scan.
+/// For a good bundle, returns `OK`, or `TOO_SMALL` if a name does not fit in its slice. For other
+/// bytes, returns `TRUNCATED` or `FAULT`, whether the names fit or not. Returns `RANGE` if the
+/// memory has no scan.
 #[unsafe(no_mangle)]
 pub unsafe extern "C" fn tcpclkit_raw_describe_scan(
     memory: *const u64,
@@ -366,10 +375,11 @@ pub unsafe extern "C" fn tcpclkit_raw_describe_scan(
     report_to_name: &mut [u8],
     answer: &mut Bundle,
 ) -> u32
-    ghost lent: { LentScan }
+    ghost lent: { ScanLoan }
     requires* { sem 𝓛 (ReadsScan lent.share memory lent.seen) }
     ensures* scan { sem 𝓛 (ReadsScan lent.share memory lent.seen) }
-    ensures answer { ReturnsInfo (verdict lent.seen) (payload_seen lent.seen) (primary_fields lent.seen)
+    ensures answer { ReturnsBundleOrFault (verdict lent.seen) (payload_seen lent.seen)
+        (primary_fields lent.seen)
         (three_names destination_name.old source_name.old report_to_name.old)
         (three_names destination_name.new source_name.new report_to_name.new)
         answer.new result }

@@ -8,7 +8,7 @@ ghost use Rattle.link_report_blocks.specs.Fields.{type_name};
 ghost use Rattle.link_report_blocks.specs.Words.{report_names, words_text};
 ghost use Rattle.link_ffi_numbers.specs.Bundle.{eid_by};
 ghost use Rattle.link_ffi_numbers.specs.Named.{named_by};
-ghost use Rattle.tcpclkit_c.specs.EidText.{ReturnsEid};
+ghost use Rattle.tcpclkit_c.specs.EidText.{ReturnsEidOfText};
 ghost use Rattle.tcpclkit_c.specs.Text.{answer_text, named_text, option_text, option_eid_text, reason_text_by, is_data_of, data_words, ReturnsThisText, ReturnsText};
 
 use link_bundle_data::{DataKind, DataScan};
@@ -38,7 +38,7 @@ fn answer_words(fault: AnswerFault) -> &'static str
     }
 }
 
-/// Writes the words of a fault into an empty line.
+/// Writes the words of a fault into an empty line. The code of a bundle's fault comes before them.
 fn put_named(line: &mut Line, named: Named)
     requires { line.old.items ≡ [] }
     ensures { line.new.items ≡ named_text named }
@@ -114,15 +114,18 @@ pub extern "C" fn tcpclkit_raw_write_eid_text(
     }
 }
 
-/// Reads the text of an endpoint ID. Returns `OK`, `TOO_SMALL` if the slice is too small for the
-/// name, or `RANGE` if no endpoint ID has this text.
+/// Reads the text of an endpoint ID. Writes the numbers of the endpoint ID to `eid`, and a dtn name
+/// to `name`. Returns `OK`.
+///
+/// If `name` is too small for the name, writes the numbers alone and returns `TOO_SMALL`. If no
+/// endpoint ID has this text, writes zeros to `eid` and returns `RANGE`.
 #[unsafe(no_mangle)]
 pub extern "C" fn tcpclkit_raw_read_eid_text(
     text: &[u8],
     eid: &mut EidNumbers,
     name: &mut [u8],
 ) -> u32
-    ensures { ReturnsEid text.now name.old name.new eid.new result }
+    ensures { ReturnsEidOfText text.now name.old name.new eid.new result }
 {
     match read_eid_text(text, name) {
         Ok((form, size)) => {
@@ -192,7 +195,7 @@ pub extern "C" fn tcpclkit_raw_write_block_type_text(
 }
 
 /// Whether these are a primary block, a canonical block, and all of the canonical block's data. The
-/// canonical block may be cut after its data.
+/// canonical block may be cut after its data. The data ends at an offset of at most 2^64 - 1.
 fn is_data_of(primary: &BlockNumbers, block: &BlockNumbers, content: &[u8]) -> bool
     ensures { result ≡ is_data_of primary.now block.now (length content.now) }
 {
@@ -204,8 +207,8 @@ fn is_data_of(primary: &BlockNumbers, block: &BlockNumbers, content: &[u8]) -> b
 
 /// Writes the words for a block's data to the start of the page, and returns their length.
 ///
-/// The data begins at offset `start` of the bundle. There are no words if `kind` is `None`: the
-/// data is not read.
+/// The data begins at offset `start` of the bundle. If `kind` is `None`, the data is not read, and
+/// there are no words.
 fn write_data(page: &mut [u8], kind: Option<DataKind>, start: u64, content: &[u8]) -> usize
     requires room { WORDS_MAX ≤ length page.old }
     requires start { start ≤ 2 ^ 64 - 1 - length content.now }
@@ -231,8 +234,8 @@ fn without_space(words: &[u8]) -> &[u8]
     &words[1.min(words.len())..]
 }
 
-/// Writes what the data of a block says. Returns `OK` or `TOO_SMALL`, or `RANGE` if [`is_data_of`]
-/// is false.
+/// Writes the words for the data of a block, without the space before them. There are no words if
+/// the data is not read. Returns `OK` or `TOO_SMALL`, or `RANGE` if [`is_data_of`] is false.
 #[unsafe(no_mangle)]
 pub extern "C" fn tcpclkit_raw_read_block_data(
     primary: &BlockNumbers,

@@ -7,11 +7,11 @@
 ghost use Rattle.std.specs.Prelude.{◌≡◌, true, false, length, IfOk};
 ghost use Rattle.link_tool_list.specs.Listing.{list_tool};
 ghost use Rattle.link_tool_pack.specs.More.{more_tool};
-ghost use Rattle.link_tool_pack.specs.Packer.{IsCutterFor};
+ghost use Rattle.link_tool_pack.specs.Packer.{IsNewCutterFor};
 ghost use Rattle.link_tool_pack.specs.Packing.{pack_tool};
 ghost use Rattle.link_ffi_tools.specs.Options.{unpack_in_range, blocks_in_range, check_in_range, pack_in_range, pack_numbers_fit, more_in_range};
-ghost use Rattle.link_ffi_tools.specs.Tool.{ReturnsTexts, ReturnsUnpacked, ReturnsBlocks, ReturnsRules};
-ghost use Rattle.tcpclkit_c.specs.Packed.{tool_with, packed_by, HasMoreOptions, ReturnsPacked, ReturnsMore};
+ghost use Rattle.link_ffi_tools.specs.Tool.{ReturnsTexts, ReturnsUnpackTexts, ReturnsBlocksTexts, ReturnsCheckTexts};
+ghost use Rattle.tcpclkit_c.specs.Packed.{tool_with, packed_by, IsPackMoreOptionsByNumbers, ReturnsPackTexts, ReturnsPackMoreTexts};
 
 use link_ffi_numbers::status::RANGE;
 use link_ffi_tools::{
@@ -24,9 +24,10 @@ use link_tools::{PackOptions, RunEnd, cutter_for, pack};
 use link_transfer::Cutter;
 use std::alloc::{AllocError, Global};
 
-/// Runs `list` over the bytes. A text is wanted if its `wants_` argument is not 0.
+/// Runs `list` over the bytes, and writes its two texts as far as they fit in their slices.
 ///
-/// Returns `OK`, or `TOO_SMALL` if a wanted text does not fit in its slice.
+/// A text is wanted if its `wants_` argument is not 0. Returns `OK`, or `TOO_SMALL` if a wanted
+/// text does not fit.
 #[unsafe(no_mangle)]
 pub extern "C" fn tcpclkit_raw_list(
     bytes: &[u8],
@@ -49,10 +50,10 @@ pub extern "C" fn tcpclkit_raw_list(
     list_into(bytes, wants, output, report, answer)
 }
 
-/// Runs `unpack` over the bytes. A text is wanted if its `wants_` argument is not 0.
+/// Runs `unpack` over the bytes, and writes its two texts as far as they fit in their slices.
 ///
-/// Returns `OK`, or `TOO_SMALL` if a wanted text does not fit in its slice. If an option is out of
-/// range, writes nothing and returns `RANGE`.
+/// A text is wanted if its `wants_` argument is not 0. Returns `OK`, or `TOO_SMALL` if a wanted
+/// text does not fit. If an option is out of range, writes nothing and returns `RANGE`.
 #[unsafe(no_mangle)]
 pub extern "C" fn tcpclkit_raw_unpack(
     bytes: &[u8],
@@ -64,7 +65,7 @@ pub extern "C" fn tcpclkit_raw_unpack(
     answer: &mut Run,
 ) -> u32
     ensures range { unpack_in_range options.now ≡ false → (result ≡ 6) × (answer.new ≡ answer.old) }
-    ensures run { unpack_in_range options.now ≡ true → ReturnsUnpacked options.now bytes.now
+    ensures run { unpack_in_range options.now ≡ true → ReturnsUnpackTexts options.now bytes.now
         (record { output = wants_output; report = wants_report })
         (record { output = output.old; report = report.old })
         (record { output = output.new; report = report.new })
@@ -78,10 +79,10 @@ pub extern "C" fn tcpclkit_raw_unpack(
     unpack_into(bytes, options, wants, output, report, answer)
 }
 
-/// Runs `blocks` over the bytes. A text is wanted if its `wants_` argument is not 0.
+/// Runs `blocks` over the bytes, and writes its two texts as far as they fit in their slices.
 ///
-/// Returns `OK`, or `TOO_SMALL` if a wanted text does not fit in its slice. If an option is out of
-/// range, writes nothing and returns `RANGE`.
+/// A text is wanted if its `wants_` argument is not 0. Returns `OK`, or `TOO_SMALL` if a wanted
+/// text does not fit. If an option is out of range, writes nothing and returns `RANGE`.
 #[unsafe(no_mangle)]
 pub extern "C" fn tcpclkit_raw_blocks(
     bytes: &[u8],
@@ -93,7 +94,7 @@ pub extern "C" fn tcpclkit_raw_blocks(
     answer: &mut Run,
 ) -> u32
     ensures range { blocks_in_range options.now ≡ false → (result ≡ 6) × (answer.new ≡ answer.old) }
-    ensures run { blocks_in_range options.now ≡ true → ReturnsBlocks options.now bytes.now
+    ensures run { blocks_in_range options.now ≡ true → ReturnsBlocksTexts options.now bytes.now
         (record { output = wants_output; report = wants_report })
         (record { output = output.old; report = report.old })
         (record { output = output.new; report = report.new })
@@ -107,10 +108,10 @@ pub extern "C" fn tcpclkit_raw_blocks(
     blocks_into(bytes, options, wants, output, report, answer)
 }
 
-/// Runs `check` over the bytes. A text is wanted if its `wants_` argument is not 0.
+/// Runs `check` over the bytes, and writes its two texts as far as they fit in their slices.
 ///
-/// Returns `OK`, or `TOO_SMALL` if a wanted text does not fit in its slice. If an option is out of
-/// range, writes nothing and returns `RANGE`.
+/// A text is wanted if its `wants_` argument is not 0. Returns `OK`, or `TOO_SMALL` if a wanted
+/// text does not fit. If an option is out of range, writes nothing and returns `RANGE`.
 #[unsafe(no_mangle)]
 pub extern "C" fn tcpclkit_raw_check(
     bytes: &[u8],
@@ -122,7 +123,7 @@ pub extern "C" fn tcpclkit_raw_check(
     answer: &mut Run,
 ) -> u32
     ensures range { check_in_range options.now ≡ false → (result ≡ 6) × (answer.new ≡ answer.old) }
-    ensures run { check_in_range options.now ≡ true → ReturnsRules options.now bytes.now
+    ensures run { check_in_range options.now ≡ true → ReturnsCheckTexts options.now bytes.now
         (record { output = wants_output; report = wants_report })
         (record { output = output.old; report = report.old })
         (record { output = output.new; report = report.new })
@@ -146,7 +147,7 @@ struct Packing {
 impl SliceTool for Packing {
     ghost tool = { λ packing. tool_with packing.memory (pack_tool packing.options) };
 
-    ghost ready = { λ packing. IfOk packing.memory (IsCutterFor packing.options) };
+    ghost ready = { λ packing. IfOk packing.memory (IsNewCutterFor packing.options) };
 
     fn run<'a, 'b, 'c>(
         self,
@@ -158,11 +159,11 @@ impl SliceTool for Packing {
     }
 }
 
-/// Runs `pack` over the bytes. A text is wanted if its `wants_` argument is not 0.
+/// Runs `pack` over the bytes, and writes its two texts as far as they fit in their slices.
 ///
-/// Returns `OK`, or `TOO_SMALL` if a wanted text does not fit in its slice, or `MEMORY` if the
-/// request for memory was refused. If an option or the length of the node ID is out of range,
-/// writes nothing and returns `RANGE`.
+/// A text is wanted if its `wants_` argument is not 0. Returns `OK`, or `TOO_SMALL` if a wanted
+/// text does not fit. If the request for memory was refused, writes no text and returns `MEMORY`.
+/// If an option or the length of the node ID is out of range, writes nothing and returns `RANGE`.
 #[unsafe(no_mangle)]
 pub extern "C" fn tcpclkit_raw_pack(
     alloc: Global,
@@ -178,7 +179,7 @@ pub extern "C" fn tcpclkit_raw_pack(
     ensures range { pack_in_range options.now (length node.now) ≡ false
         → (result ≡ 6) × (answer.new ≡ answer.old) }
     ensures run { pack_in_range options.now (length node.now) ≡ true
-        → ReturnsPacked options.now node.now bytes.now
+        → ReturnsPackTexts options.now node.now bytes.now
         (record { output = wants_output; report = wants_report })
         (record { output = output.old; report = report.old })
         (record { output = output.new; report = report.new })
@@ -214,7 +215,7 @@ struct MorePacking {
 impl SliceTool for MorePacking {
     ghost tool = { λ packing. tool_with packing.memory (more_tool packing.options) };
 
-    ghost ready = { λ packing. IfOk packing.memory (IsCutterFor packing.options.pack) };
+    ghost ready = { λ packing. IfOk packing.memory (IsNewCutterFor packing.options.pack) };
 
     fn run<'a, 'b, 'c>(
         self,
@@ -244,7 +245,7 @@ fn packed_by(numbers: &MoreNumbers) -> PackNumbers
 /// The options of `pack_more` with these numbers.
 fn more_options(numbers: &MoreNumbers) -> MoreOptions
     requires { pack_numbers_fit (packed_by numbers.now) 0 ≡ true }
-    ensures { HasMoreOptions result numbers.now }
+    ensures { IsPackMoreOptionsByNumbers result numbers.now }
 {
     MoreOptions {
         first: numbers.first,
@@ -252,12 +253,12 @@ fn more_options(numbers: &MoreNumbers) -> MoreOptions
     }
 }
 
-/// Runs `pack_more` over the bytes. A text is wanted if its `wants_` argument is not 0.
+/// Runs `pack_more` over the bytes, and writes its two texts as far as they fit in their slices.
 ///
-/// Returns `OK`, or `TOO_SMALL` if a wanted text does not fit in its slice, or `MEMORY` if the
-/// request for memory was refused. If an option is out of range, writes nothing and returns
-/// `RANGE`. So it does if `first` and the number of bytes together exceed 2^64 - 1, since the
-/// transfer IDs could then run out.
+/// A text is wanted if its `wants_` argument is not 0. Returns `OK`, or `TOO_SMALL` if a wanted
+/// text does not fit. If the request for memory was refused, writes no text and returns `MEMORY`.
+/// If an option is out of range, writes nothing and returns `RANGE`. It does the same if `first`
+/// and the number of bytes together exceed 2^64 - 1, since the transfer IDs could then run out.
 #[unsafe(no_mangle)]
 pub extern "C" fn tcpclkit_raw_pack_more(
     alloc: Global,
@@ -272,7 +273,7 @@ pub extern "C" fn tcpclkit_raw_pack_more(
     ensures range { more_in_range options.now (length bytes.now) ≡ false
         → (result ≡ 6) × (answer.new ≡ answer.old) }
     ensures run { more_in_range options.now (length bytes.now) ≡ true
-        → ReturnsMore options.now bytes.now
+        → ReturnsPackMoreTexts options.now bytes.now
         (record { output = wants_output; report = wants_report })
         (record { output = output.old; report = report.old })
         (record { output = output.new; report = report.new })

@@ -27,8 +27,8 @@ use link_ffi_writer::{
 use link_wire_writer::{write_contact, write_item, write_message};
 use link_writing::WriteFault;
 
-/// Writes what a writer returned as numbers. Returns `OK`, `TOO_SMALL`, or `RANGE` if a value is
-/// out of its range.
+/// Turns the result of a writer into numbers, and writes them. Returns `OK`, `TOO_SMALL`, or
+/// `RANGE` if a value is out of its range.
 fn give(outcome: Result<usize, WriteFault>, written: &mut Written) -> u32
     ensures { (written.new, result) ≡ written_shown outcome }
 {
@@ -163,7 +163,7 @@ pub extern "C" fn tcpclkit_raw_start_check(check: &mut KeptCheck, kind: u64) -> 
 
 /// Feeds the next bytes of a block to its check.
 ///
-/// Returns `OK`, or `RANGE` if the numbers are those of no check.
+/// Returns `OK`, or `RANGE` if a field of `check` is out of its range.
 #[unsafe(no_mangle)]
 pub extern "C" fn tcpclkit_raw_feed_check(check: &mut KeptCheck, piece: &[u8]) -> u32
     ensures fed { (kind : CheckKind) (before : List ℕ) → IsKeptCheckAt kind check.old before
@@ -173,8 +173,8 @@ pub extern "C" fn tcpclkit_raw_feed_check(check: &mut KeptCheck, piece: &[u8]) -
     if check.feed(piece) { OK } else { RANGE }
 }
 
-/// Writes the check value of the bytes that were fed, and returns `OK`. Writes 0 and returns
-/// `RANGE` if the numbers are those of no check.
+/// Writes the check value of the bytes that were fed, and returns `OK`. If a field of `check` is
+/// out of its range, writes 0 and returns `RANGE`.
 #[unsafe(no_mangle)]
 pub extern "C" fn tcpclkit_raw_end_check(check: &KeptCheck, value: &mut u64) -> u32
     ensures value { (kind : CheckKind) (bytes : List ℕ) → IsKeptCheckAt kind check.now bytes
@@ -193,9 +193,9 @@ pub extern "C" fn tcpclkit_raw_end_check(check: &KeptCheck, value: &mut u64) -> 
     }
 }
 
-/// Writes the check field of a block whose bytes before the field were fed.
+/// Writes the check field of a block. All bytes of the block before this field were fed to `check`.
 ///
-/// Returns `OK` or `TOO_SMALL`, or `RANGE` if the numbers are those of no check.
+/// Returns `OK` or `TOO_SMALL`, or `RANGE` if a field of `check` is out of its range.
 #[unsafe(no_mangle)]
 pub extern "C" fn tcpclkit_raw_write_check(
     check: &KeptCheck,

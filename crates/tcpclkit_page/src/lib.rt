@@ -10,14 +10,14 @@
 ghost use Rattle.std.specs.Prelude.{◌≡◌, true, false};
 ghost use Rattle.link_tool_list.specs.Listing.{list_tool};
 ghost use Rattle.link_ffi_tools.specs.Options.{unpack_in_range, blocks_in_range, check_in_range};
-ghost use Rattle.link_ffi_tools.specs.Tool.{ReturnsTexts, ReturnsUnpacked, ReturnsBlocks, ReturnsRules};
+ghost use Rattle.link_ffi_tools.specs.Tool.{ReturnsTexts, ReturnsUnpackTexts, ReturnsBlocksTexts, ReturnsCheckTexts};
 
 use link_ffi_tools::{Run, Wants, blocks_into, check_into, list_into, unpack_into};
 
-/// Runs `list` over the bytes. Returns 0, or 5 if a wanted text does not fit in its slice.
+/// Runs `list` over the bytes, and writes its two texts as far as they fit in their slices.
 ///
-/// A text is wanted if its `wants_` number is not 0. `answer` gets the exit status, and the lengths
-/// of both texts.
+/// A text is wanted if its `wants_` number is not 0. Returns 0, or 5 if a wanted text does not fit.
+/// `answer` gets the exit status, and the whole length of each text.
 #[unsafe(no_mangle)]
 pub extern "C" fn list(
     bytes: &[u8],
@@ -40,11 +40,11 @@ pub extern "C" fn list(
     list_into(bytes, wants, output, report, answer)
 }
 
-/// Runs `unpack` over the bytes.
+/// Runs `unpack` over the bytes, and writes its two texts as far as they fit in their slices.
 ///
-/// Returns 0, or 5 if a wanted text does not fit in its slice. If an option is out of range, writes
-/// nothing and returns 6. A text is wanted if its `wants_` number is not 0. `answer` gets the exit
-/// status, and the lengths of both texts.
+/// A text is wanted if its `wants_` number is not 0. Returns 0, or 5 if a wanted text does not fit.
+/// If an option is out of range, writes nothing and returns 6. `answer` gets the exit status, and
+/// the whole length of each text.
 #[unsafe(no_mangle)]
 pub extern "C" fn unpack(
     bytes: &[u8],
@@ -56,7 +56,7 @@ pub extern "C" fn unpack(
     answer: &mut Run,
 ) -> u32
     ensures range { unpack_in_range options.now ≡ false → (result ≡ 6) × (answer.new ≡ answer.old) }
-    ensures run { unpack_in_range options.now ≡ true → ReturnsUnpacked options.now bytes.now
+    ensures run { unpack_in_range options.now ≡ true → ReturnsUnpackTexts options.now bytes.now
         (record { output = wants_output; report = wants_report })
         (record { output = output.old; report = report.old })
         (record { output = output.new; report = report.new })
@@ -70,11 +70,11 @@ pub extern "C" fn unpack(
     unpack_into(bytes, options, wants, output, report, answer)
 }
 
-/// Runs `blocks` over the bytes.
+/// Runs `blocks` over the bytes, and writes its two texts as far as they fit in their slices.
 ///
-/// Returns 0, or 5 if a wanted text does not fit in its slice. If an option is out of range, writes
-/// nothing and returns 6. A text is wanted if its `wants_` number is not 0. `answer` gets the exit
-/// status, and the lengths of both texts.
+/// A text is wanted if its `wants_` number is not 0. Returns 0, or 5 if a wanted text does not fit.
+/// If an option is out of range, writes nothing and returns 6. `answer` gets the exit status, and
+/// the whole length of each text.
 #[unsafe(no_mangle)]
 pub extern "C" fn blocks(
     bytes: &[u8],
@@ -86,7 +86,7 @@ pub extern "C" fn blocks(
     answer: &mut Run,
 ) -> u32
     ensures range { blocks_in_range options.now ≡ false → (result ≡ 6) × (answer.new ≡ answer.old) }
-    ensures run { blocks_in_range options.now ≡ true → ReturnsBlocks options.now bytes.now
+    ensures run { blocks_in_range options.now ≡ true → ReturnsBlocksTexts options.now bytes.now
         (record { output = wants_output; report = wants_report })
         (record { output = output.old; report = report.old })
         (record { output = output.new; report = report.new })
@@ -100,11 +100,11 @@ pub extern "C" fn blocks(
     blocks_into(bytes, options, wants, output, report, answer)
 }
 
-/// Runs `check` over the bytes.
+/// Runs `check` over the bytes, and writes its two texts as far as they fit in their slices.
 ///
-/// Returns 0, or 5 if a wanted text does not fit in its slice. If an option is out of range, writes
-/// nothing and returns 6. A text is wanted if its `wants_` number is not 0. `answer` gets the exit
-/// status, and the lengths of both texts.
+/// A text is wanted if its `wants_` number is not 0. Returns 0, or 5 if a wanted text does not fit.
+/// If an option is out of range, writes nothing and returns 6. `answer` gets the exit status, and
+/// the whole length of each text.
 #[unsafe(no_mangle)]
 pub extern "C" fn check(
     bytes: &[u8],
@@ -116,7 +116,7 @@ pub extern "C" fn check(
     answer: &mut Run,
 ) -> u32
     ensures range { check_in_range options.now ≡ false → (result ≡ 6) × (answer.new ≡ answer.old) }
-    ensures run { check_in_range options.now ≡ true → ReturnsRules options.now bytes.now
+    ensures run { check_in_range options.now ≡ true → ReturnsCheckTexts options.now bytes.now
         (record { output = wants_output; report = wants_report })
         (record { output = output.old; report = report.old })
         (record { output = output.new; report = report.new })

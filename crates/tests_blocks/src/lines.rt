@@ -1,7 +1,7 @@
 //! The lines of primary blocks, of canonical blocks without words, and of ends.
 ghost use Rattle.std.specs.Prelude.{◌≡◌, ◌≤◌, ◌+◌, true, length};
 ghost use Rattle.link_bundle_types.specs.EidView.{viewed_eid};
-ghost use Rattle.link_bundle_types.specs.ShortNames.{IsShort};
+ghost use Rattle.link_bundle_types.specs.ShortNames.{HasNoLongName};
 ghost use Rattle.link_bundle_blocks.specs.Blocks.{viewed_primary, HasShortEids};
 
 use link_bundle_blocks::{CanonicalBlock, PrimaryBlock};
@@ -25,7 +25,7 @@ pub(crate) fn expect<T: Text>(rt: &impl Abort, text: &T, want: &str) {
 
 /// Whether an endpoint ID has no name longer than 1,024 bytes.
 fn is_short(eid: &EidView<'_>) -> bool
-    ensures { result ≡ true → IsShort (viewed_eid eid.now) }
+    ensures { result ≡ true → HasNoLongName (viewed_eid eid.now) }
 {
     match eid {
         EidView::Dtn(name) => name.len() <= EID_LIMIT,

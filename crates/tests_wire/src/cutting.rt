@@ -1,7 +1,7 @@
 //! Bundles cut into chunks.
 
 ghost use Rattle.std.specs.Prelude.{◌≡◌, ◌<◌, ◌≤◌, false, length};
-ghost use Rattle.link_transfer.specs.Cutter.{cut_waits};
+ghost use Rattle.link_transfer.specs.Cutter.{has_ready_chunk};
 
 use link_transfer::{Cut, Cutter};
 use std::alloc::AllocError;
@@ -76,7 +76,7 @@ impl Chunks<'_> {
 
 /// Takes the chunks that are ready.
 fn take_all(rt: &impl Abort, cutter: &mut Cutter, chunks: &mut Chunks<'_>)
-    ensures { cut_waits cutter.new ≡ false }
+    ensures { has_ready_chunk cutter.new ≡ false }
 {
     while let Some(cut) = cutter.cut() {
         chunks.take(rt, cut, cutter.bytes());
@@ -91,7 +91,7 @@ fn take_in_place(
     last: bool,
     chunks: &mut Chunks<'_>,
 )
-    requires { cut_waits cutter.old ≡ false }
+    requires { has_ready_chunk cutter.old ≡ false }
 {
     match cutter.cut_slice(part, last) {
         Some(cut) => chunks.take(rt, cut, part),
@@ -112,7 +112,7 @@ fn advance(
     in_place: bool,
     chunks: &mut Chunks<'_>,
 ) -> usize
-    requires quiet { cut_waits cutter.old ≡ false }
+    requires quiet { has_ready_chunk cutter.old ≡ false }
     requires some { 0 < length piece.now }
     ensures some { 0 < result }
     ensures within { result ≤ length piece.now }
@@ -135,8 +135,8 @@ fn push_piece(
     in_place: bool,
     chunks: &mut Chunks<'_>,
 )
-    requires { cut_waits cutter.old ≡ false }
-    ensures { cut_waits cutter.new ≡ false }
+    requires { has_ready_chunk cutter.old ≡ false }
+    ensures { has_ready_chunk cutter.new ≡ false }
 {
     let mut at = 0;
     while at < piece.len() {
@@ -153,8 +153,8 @@ fn push_in_two(
     in_place: bool,
     chunks: &mut Chunks<'_>,
 )
-    requires { cut_waits cutter.old ≡ false }
-    ensures { cut_waits cutter.new ≡ false }
+    requires { has_ready_chunk cutter.old ≡ false }
+    ensures { has_ready_chunk cutter.new ≡ false }
 {
     let (front, back) = chunks.bundle.split_at(chunks.bundle.len().min(at));
     push_piece(rt, cutter, front, false, in_place, chunks);
@@ -164,8 +164,8 @@ fn push_in_two(
 
 /// Pushes the bundle byte by byte, and takes each chunk as soon as it is ready.
 fn push_bytes(rt: &impl Abort, cutter: &mut Cutter, bundle: &[u8], chunks: &mut Chunks<'_>)
-    requires { cut_waits cutter.old ≡ false }
-    ensures { cut_waits cutter.new ≡ false }
+    requires { has_ready_chunk cutter.old ≡ false }
+    ensures { has_ready_chunk cutter.new ≡ false }
 {
     for (index, &byte) in bundle.iter().enumerate() {
         let come = index.saturating_add(1);

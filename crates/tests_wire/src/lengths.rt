@@ -1,6 +1,6 @@
 //! Announced lengths.
 
-ghost use Rattle.link_wire.specs.Message.{TotalFits, TotalsFit};
+ghost use Rattle.link_wire.specs.Message.{HasTotalIfLengthItem, HaveTotalsIfLengthItems};
 
 use link_transfer::{Announced, announced};
 use link_wire::{Item, Items};
@@ -13,7 +13,7 @@ const TOTAL_LENGTH: u16 = 8;
 
 /// The list of items of these types and lengths, with a total of 35 in Transfer Length items.
 fn items_of(kinds: &[(u16, u16)]) -> Items
-    ensures { TotalsFit result.items }
+    ensures { HaveTotalsIfLengthItems result.items }
 {
     let mut items = Items::new();
     for &(kind, length) in kinds {
@@ -25,7 +25,7 @@ fn items_of(kinds: &[(u16, u16)]) -> Items
 }
 
 fn item_of(kind: u16, length: u16) -> Item
-    ensures { TotalFits result }
+    ensures { HasTotalIfLengthItem result }
 {
     let total = if kind == TRANSFER_LENGTH && length == TOTAL_LENGTH {
         Some(35)

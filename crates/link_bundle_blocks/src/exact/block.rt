@@ -3,7 +3,7 @@
 
 ghost use Rattle.std.specs.Prelude.{◌≡◌, ℕ, ◌<◌, ◌≤◌, true, false, List, None, Ok, Err, IfOk, MatchResult, length};
 ghost use Rattle.link_bundle_types.specs.Faults.{lasts};
-ghost use Rattle.link_cbor.specs.Pushed.{HasPushed};
+ghost use Rattle.link_cbor.specs.Pushed.{IsCheckAt};
 ghost use Rattle.link_bundle_heads.specs.Rows as row;
 ghost use Rattle.link_bundle_blocks.specs.Canonical.{heads_at};
 ghost use Rattle.link_bundle_blocks.specs.Exact.{passed_of, reading_of};
@@ -61,7 +61,7 @@ fn data_length_at(bytes: &[u8], offset: usize) -> Result<(u64, usize), PartFault
 
 /// Reads a canonical block up to its data (RFC 9171 section 4.3.2), from its first byte on.
 ///
-/// `numbers` are the numbers of the blocks before it.
+/// `numbers` are the numbers of the blocks before it. Returns the offset of its data too.
 #[tactic(auto, unfolding(crate::specs::Canonical::heads_at))]
 fn heads_at(numbers: &[u64], bytes: &[u8]) -> Result<(CanonicalBlock, usize), PartFault>
     ensures read { reading_of result ≡ heads_at numbers.now bytes.now 0 }
@@ -95,8 +95,8 @@ fn heads_at(numbers: &[u64], bytes: &[u8]) -> Result<(CanonicalBlock, usize), Pa
 ///
 /// # Errors
 ///
-/// The first fault of the heads. If `numbers` is full, only the first head is read, and that of
-/// another block has the fault `TooManyBlocks` at offset 0.
+/// The first fault of the heads. If `numbers` is full, only the first head is read. If this head
+/// begins another block, the fault is `TooManyBlocks` at offset 0.
 #[tactic(auto, unfolding(crate::specs::Parts::next_block_at, crate::specs::Reading::row_at, link_bundle_heads::specs::Rows::block_too_many))]
 pub fn next_block_at(
     numbers: &BlockNumbers,
@@ -129,9 +129,9 @@ pub fn next_block_at(
 /// `CheckDiffers` at offset 0.
 #[tactic(auto, unfolding(crate::specs::Parts::field_from, crate::specs::Parts::any_field))]
 pub fn check_field_at(kind: CheckKind, check: Check, bytes: &[u8]) -> Result<usize, PartFault>
-    ensures read { (before : List ℕ) → HasPushed kind check before
+    ensures read { (before : List ℕ) → IsCheckAt kind check before
         → passed_of result ≡ field_from kind before bytes.now }
-    // The bytes that are read do not depend on the check.
+    // The result is the same for any check value, unless it is a fault that lasts.
     ensures size { MatchResult result (λ next. any_field kind bytes.now ≡ Ok (true, next))
         (λ stop. lasts stop.fault ≡ false
         → any_field kind bytes.now ≡ Err (stopped stop.fault stop.offset)) }
@@ -151,8 +151,8 @@ pub fn check_field_at(kind: CheckKind, check: Check, bytes: &[u8]) -> Result<usi
 ///
 /// # Errors
 ///
-/// `Cut` if the bytes end inside a head. At offset 0, `BadHead` if they begin with no well-formed
-/// head, and `NoPayloadLast` if they begin with another head than the break.
+/// `Cut` if the bytes are empty or end inside a head. `BadHead` at offset 0 if they begin with no
+/// well-formed head. `NoPayloadLast` at offset 0 if they begin with another head than the break.
 #[tactic(auto, unfolding(crate::specs::Reading::row_at, link_bundle_heads::specs::Rows::closing))]
 pub fn break_at(bytes: &[u8]) -> Result<usize, PartFault>
     ensures { passed_of result ≡ row_at row.closing bytes.now 0 }

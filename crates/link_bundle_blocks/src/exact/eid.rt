@@ -3,7 +3,7 @@
 
 ghost use Rattle.std.specs.Prelude.{◌≡◌, ◌≤◌, IfOk, IfSome};
 ghost use Rattle.link_bundle_types.specs.EidView.{viewed_eid};
-ghost use Rattle.link_bundle_types.specs.ShortNames.{IsShort};
+ghost use Rattle.link_bundle_types.specs.ShortNames.{HasNoLongName};
 ghost use Rattle.link_bundle_heads.specs.Rows as row;
 ghost use Rattle.link_bundle_heads.specs.declared.endpoint.Scheme.TheVariants.{Dtn, Ipn};
 ghost use Rattle.link_bundle_blocks.specs.Reading.{row_at};
@@ -43,7 +43,7 @@ fn ipn_part_at(bytes: &[u8], offset: usize) -> Result<(u64, usize), PartFault>
 #[tactic(auto, unfolding(crate::specs::EndpointId::eid_at))]
 pub(crate) fn eid_at(bytes: &[u8], offset: usize) -> Result<(EidView<'_>, usize), PartFault>
     ensures read { reading_by viewed_eid result ≡ eid_at bytes.now offset }
-    ensures short { IfOk result (λ read. IsShort (viewed_eid read.0)) }
+    ensures short { IfOk result (λ read. HasNoLongName (viewed_eid read.0)) }
 {
     let (_, offset) = pair_at(bytes, offset)?;
     let (scheme, offset) = scheme_at(bytes, offset)?;
@@ -57,7 +57,7 @@ pub(crate) fn eid_at(bytes: &[u8], offset: usize) -> Result<(EidView<'_>, usize)
 #[tactic(auto, unfolding(crate::specs::EndpointId::specific_at, crate::specs::EndpointId::dtn_at))]
 fn dtn_at(bytes: &[u8], offset: usize) -> Result<(EidView<'_>, usize), PartFault>
     ensures read { reading_by viewed_eid result ≡ specific_at Dtn bytes.now offset }
-    ensures short { IfOk result (λ read. IsShort (viewed_eid read.0)) }
+    ensures short { IfOk result (λ read. HasNoLongName (viewed_eid read.0)) }
 {
     let (part, offset) = dtn_part_at(bytes, offset)?;
     match part {
@@ -73,7 +73,7 @@ fn dtn_at(bytes: &[u8], offset: usize) -> Result<(EidView<'_>, usize), PartFault
 #[tactic(auto, unfolding(crate::specs::EndpointId::specific_at, crate::specs::EndpointId::ipn_at))]
 fn ipn_at(bytes: &[u8], offset: usize) -> Result<(EidView<'_>, usize), PartFault>
     ensures read { reading_by viewed_eid result ≡ specific_at Ipn bytes.now offset }
-    ensures short { IfOk result (λ read. IsShort (viewed_eid read.0)) }
+    ensures short { IfOk result (λ read. HasNoLongName (viewed_eid read.0)) }
 {
     let (count, offset) = ipn_part_at(bytes, offset)?;
     let (first, offset) = unsigned_at(bytes, offset)?;

@@ -49,7 +49,8 @@ fn no_fields<'a>() -> PrimaryBlock<'a>
     }
 }
 
-/// Adds the first `count` elements of the block, which come before the part, to the part's fault.
+/// Returns `reading`. If it is a fault, the first `count` elements of `block` are returned with it.
+/// They come before the part that was read.
 #[inline(always)]
 fn after<'a, T>(
     count: u64,
@@ -115,6 +116,8 @@ fn check_type_at(
 }
 
 /// Reads the fragment offset and the total length, if the bundle is a fragment.
+///
+/// `block` contains the elements before them. Until the total length is read, it is 0 in `block`.
 #[tactic(auto, unfolding(crate::specs::Primary::fragment_elements))]
 fn fragment_elements<'a>(
     mut block: PrimaryBlock<'a>,
@@ -176,7 +179,11 @@ fn field_at(check: Option<CheckKind>, bytes: &[u8], offset: usize) -> Result<usi
     }
 }
 
-/// Reads the check field of the block, which has a check of this kind.
+/// Reads the check field at `offset`, and compares it with the check value of the block. The block
+/// begins at offset 1, and has a check of this kind.
+///
+/// Returns the offset after the field. If the two values differ, the fault is `CheckDiffers` at
+/// `offset`.
 #[tactic(auto, unfolding(crate::specs::CheckField::field_at, crate::specs::CheckField::check_of))]
 fn stored_at(kind: CheckKind, bytes: &[u8], offset: usize) -> Result<usize, PartFault>
     ensures { passed_of result ≡ field_at (Some kind) 1 bytes.now offset }
@@ -214,7 +221,8 @@ pub fn primary_at(bytes: &[u8]) -> Result<PrimaryBlock<'_>, (PrimaryView<'_>, Pa
     })
 }
 
-/// The fields of the primary block of the bundle that the bytes begin with, up to its first fault.
+/// The fields of a primary block up to its first fault. `bytes` begins with the first byte of the
+/// bundle.
 pub fn primary_fields(bytes: &[u8]) -> PrimaryView<'_>
     ensures { viewed_fields result ≡ fields.primary_fields bytes.now }
 {

@@ -7,7 +7,7 @@
 ghost use Rattle.std.specs.Prelude.{◌≡◌, ◌*◌, ◌/◌, ◌%◌, ◌^◌, ◌∷◌, []};
 ghost use Rattle.std.specs.List.{concat};
 ghost use Rattle.link_cbor.specs.Crc.{register_after};
-ghost use Rattle.link_cbor.specs.CrcTables.{AreTables};
+ghost use Rattle.link_cbor.specs.CrcTables.{AreCrcTables};
 ghost use Rattle.link_cbor.specs.declared.check.CheckKind.{CheckKind};
 
 /// The tables of one kind of check.
@@ -22,7 +22,7 @@ const REGISTER_BYTES: usize = 4;
 /// The register after one more byte.
 #[inline(always)]
 pub(super) fn register_after(tables: &Tables, register: u32, byte: u8) -> u32
-    ensures { (kind : CheckKind) → AreTables kind tables.now
+    ensures { (kind : CheckKind) → AreCrcTables kind tables.now
         → result ≡ register_after kind register (byte ∷ []) }
 {
     tables[0][usize::from(byte_of(register, 0) ^ byte)] ^ register >> 8
@@ -32,7 +32,7 @@ pub(super) fn register_after(tables: &Tables, register: u32, byte: u8) -> u32
 // Not inlined: an inlined body would keep the addresses of sixteen tables in place of one.
 #[inline(never)]
 pub(super) fn register_after_blocks(tables: &Tables, mut register: u32, blocks: &[[u8; 16]]) -> u32
-    ensures { (kind : CheckKind) → AreTables kind tables.now
+    ensures { (kind : CheckKind) → AreCrcTables kind tables.now
         → result ≡ register_after kind register (concat blocks.now) }
 {
     for block in blocks {
@@ -43,11 +43,12 @@ pub(super) fn register_after_blocks(tables: &Tables, mut register: u32, blocks: 
 
 /// The register after sixteen more bytes.
 ///
-/// Table `zeros` is for a byte after which that many more of the sixteen follow. The last byte is
-/// looked up first, since only the first four bytes depend on the register.
+/// Table number `zeros` is for the byte after which `zeros` more of the sixteen follow. The last
+/// byte is looked up first. Only the first four bytes depend on the register, so the other look-ups
+/// need not wait for it.
 #[inline(always)]
 fn register_after_block(tables: &Tables, register: u32, block: &[u8; 16]) -> u32
-    ensures { (kind : CheckKind) → AreTables kind tables.now
+    ensures { (kind : CheckKind) → AreCrcTables kind tables.now
         → result ≡ register_after kind register block.now }
 {
     let mut sum = 0;

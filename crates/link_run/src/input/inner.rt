@@ -18,8 +18,8 @@ impl<R: InDevice, W: OutDevice, E: OutDevice> Input<Session<R>, W, E> {
         self.feed.given()
     }
 
-    /// The data of the next message, as [`Session::inner_data`] returns it: if the message is an
-    /// inner segment of transfer `id`, has data, and lies whole in the window.
+    /// The data of the next message, if this is an inner segment of transfer `id` that has data and
+    /// lies whole in the window. Otherwise, and after a stop, it is `None`.
     #[inline(always)]
     pub fn inner_data(&self, id: u64) -> Option<&[u8]>
         ensures is { IfSome result (λ bytes.

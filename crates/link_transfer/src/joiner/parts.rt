@@ -11,8 +11,8 @@ impl Joiner {
 
     /// A joiner that has accepted some messages.
     ///
-    /// The parts say whether a SESS_INIT and whether a SESS_TERM is among them, and which transfer
-    /// is open after them.
+    /// `initiated` is whether a SESS_INIT is among them, and `terminated` whether a SESS_TERM is.
+    /// `transfer` is the ID of the transfer that is open after them.
     pub fn from_parts(initiated: bool, terminated: bool, transfer: Option<u64>) -> Joiner
         ensures { (before : List Message) → initiated ≡ has_sess_init before
             → terminated ≡ has_sess_term before → transfer ≡ open_of before

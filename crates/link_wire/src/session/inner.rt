@@ -14,7 +14,7 @@ use link_io::InDevice;
 /// The first two bytes of an inner segment: the type byte of XFER_SEGMENT, and no flags.
 const INNER: u16 = 0x0100;
 
-/// The length of the data of the inner segment of this transfer that begins the window.
+/// The length of the segment's data, if the window begins with an inner segment of transfer `id`.
 ///
 /// It is `None` unless the segment has data, and all of it is in the window.
 #[tactic(auto, using(crate::proofs::Inners::inner_head, crate::proofs::Inners::two_bytes))]
@@ -44,10 +44,10 @@ impl<R: InDevice> Session<R> {
     ghost use Rattle.link_wire.specs.Inner.{HasInnerSegment, inner_bytes, PassedInner};
     ghost use Rattle.link_wire.specs.Session.{source_of, may_read, is_opened, HasStopped, IsSessionAt};
 
-    /// The data of the next message, if this is an inner segment of this transfer that has data,
-    /// and all of it is in the window.
+    /// The data of the next message, if that message is an inner segment of transfer `id`, has
+    /// data, and lies whole in the window.
     ///
-    /// After a stop it returns `None`.
+    /// Without such a message, and after a stop, it returns `None`.
     #[inline(always)]
     pub fn inner_data(&self, id: u64) -> Option<&[u8]>
         ensures is { IfSome result (λ bytes.

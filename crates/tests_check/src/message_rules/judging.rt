@@ -1,8 +1,8 @@
 //! Messages, and the rules that they break.
 
 ghost use Rattle.std.specs.Prelude.{◌≡◌};
-ghost use Rattle.link_wire.specs.Message.{TotalFits, TotalsFit};
-ghost use Rattle.link_wire.specs.MessageBuffer.{SegmentTotalsFit};
+ghost use Rattle.link_wire.specs.Message.{HasTotalIfLengthItem, HaveTotalsIfLengthItems};
+ghost use Rattle.link_wire.specs.MessageBuffer.{IfSegmentItemsHaveTotals};
 
 use link_session_rules::{
     JudgedHeadView, Level, MessageHistory, MessageRule, PeerLimits, contact_flags,
@@ -114,7 +114,7 @@ pub const NO_LIMITS: PeerLimits = PeerLimits {
 };
 
 fn item_of(of: ItemOf) -> Item
-    ensures { TotalFits result }
+    ensures { HasTotalIfLengthItem result }
 {
     let (flags, kind, length, value) = of;
     let is_total = kind == 0x0001 && length == 8;
@@ -127,7 +127,7 @@ fn item_of(of: ItemOf) -> Item
 }
 
 pub fn items_of(list: &[ItemOf]) -> Items
-    ensures { TotalsFit result.items }
+    ensures { HaveTotalsIfLengthItems result.items }
 {
     let mut items = Items::new();
     for of in list {
@@ -179,7 +179,7 @@ fn parts_of(sent: Sent) -> (&'static [u8], &'static [ItemOf]) {
 }
 
 pub fn message_of(sent: Sent) -> MessageBuffer
-    ensures { SegmentTotalsFit result }
+    ensures { IfSegmentItemsHaveTotals result }
 {
     let (node, items) = parts_of(sent);
     MessageBuffer {

@@ -98,7 +98,7 @@ pub static ORDERED: [Row; 18] = [
             Level::Should,
             Rule::AnswerOrder {
                 id: 0,
-                fault: AnswerFault::AfterEnd,
+                fault: AnswerFault::AfterStop,
             },
         )],
     },

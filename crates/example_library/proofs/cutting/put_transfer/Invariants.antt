@@ -1,9 +1,9 @@
 use Rattle.std.proofs.Common.{◌≡◌, ◌-◌, ◌≤◌, false, length}
-use Rattle.link_transfer.specs.Cutter.{cut_waits, held_size}
+use Rattle.link_transfer.specs.Cutter.{has_ready_chunk, held_size}
 use Rattle.example_library.proofs.cutting.put_transfer.Given as goal
 
 abbrev pub invariant-loop-taken : goal.invariant-loop-taken
-invariant-loop-taken l = (cut_waits l.cutter ≡ false) × (l.taken ≤ length l.bundle)
+invariant-loop-taken l = (has_ready_chunk l.cutter ≡ false) × (l.taken ≤ length l.bundle)
 
 abbrev pub decreases-loop-taken : goal.decreases-loop-taken
 decreases-loop-taken l = length l.bundle - l.taken

@@ -1,5 +1,5 @@
 use Rattle.std.proofs.Common.{◌≡◌, ◌<◌, ◌≤◌, ◌-◌, List, length, ℕ, take, true, false}
-use Rattle.link_bundle.specs.Stages.{is_cut, part_reading, HasCovered}
+use Rattle.link_bundle.specs.Stages.{is_cut, part_reading, IfAtCheckFieldCovered}
 use Rattle.link_bundle.proofs.held.shown.Given as goal
 
 -- the first `cut` bytes end inside the part, and the first `shown` do not
@@ -8,7 +8,7 @@ invariant-loop-shown l = record {
   held : l.held ≤ l.cut;
   order : l.cut < l.shown;
   within : l.shown ≤ length l.bytes;
-  ends : (covered : List ℕ) → HasCovered l.stage l.check covered
+  ends : (covered : List ℕ) → IfAtCheckFieldCovered l.stage l.check covered
       → let reading = part_reading l.stage l.numbers covered in
       is_cut (reading (take l.held l.bytes)) ≡ true → is_cut (reading l.bytes) ≡ false
       → (is_cut (reading (take l.shown l.bytes)) ≡ false)

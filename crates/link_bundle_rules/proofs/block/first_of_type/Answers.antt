@@ -1,7 +1,7 @@
 use Rattle.std.proofs.Common.{rules, tests}
 use Rattle.std.proofs.lemmas.Iterator.{YieldsList-from_slice}
 use Rattle.std.proofs.lemmas.Iterator.Search.{find_from_yields_List}
-use Rattle.link_bundle_rules.specs.ReadBundle.{is_of_type}
+use Rattle.link_bundle_rules.specs.BundleFacts.{is_of_type}
 use Rattle.link_bundle_rules.proofs.block.first_of_type.Goals as goal
 
 pub returns : goal.returns

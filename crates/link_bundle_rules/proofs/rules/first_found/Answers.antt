@@ -1,7 +1,7 @@
 use Rattle.std.proofs.Common.{◌≡◌, ℕ, ◌+◌, ◌<◌, ◌∙◌, List, length, get_or, drop, Option, refl, sym}
 use Rattle.std.specs.{Fn.FnReturnsAt, Option.option_or}
 use Rattle.std.proofs.lemmas.List.{drop_more}
-use Rattle.link_bundle_rules.specs.ReadBundle.{find_map}
+use Rattle.link_bundle_rules.specs.BundleFacts.{find_map}
 use Rattle.link_bundle_rules.proofs.rules.first_found.Given.{Over}
 use Rattle.link_bundle_rules.proofs.rules.first_found.Goals as goal
 use Rattle.link_bundle_rules.proofs.rules.first_found.Goals.{After-find}

@@ -1,6 +1,6 @@
 use Rattle.std.proofs.Common.{◌≡◌, Option, drop}
 use Rattle.std.specs.Fn.{FnReturnsAt}
-use Rattle.link_bundle_rules.specs.ReadBundle.{find_map}
+use Rattle.link_bundle_rules.specs.BundleFacts.{find_map}
 use Rattle.link_bundle_rules.proofs.rules.first_found.Given as goal
 
 abbrev pub invariant-loop-element : goal.invariant-loop-element

@@ -5,7 +5,7 @@ use Rattle.link_ffi_tools.proofs.running.run_whole.Goals as goal
 -- Each writer still has its slice, so the last bytes of that are the writer's: the search finds it.
 pub returns : goal.returns
 returns g c =
-    let ran = c.run_taken-answer in
+    let ran = c.run_into_writers-answer in
     let output = ran.new.output in
     let report = ran.new.report in
     let output_before : output.history.before ≡ c.args.output.now =

@@ -6,7 +6,7 @@ pub returns-clause-text : goal.returns-clause-text
 unfolding subject_text
 returns-clause-text c =
     rw (
-      c.write_part.ensures.text,
+      c.write_subject_fragment.ensures.text,
       c.write_number-at-2.ensures.text,
       c.write_number-at.ensures.text,
       c.write_eid-at.ensures.text,

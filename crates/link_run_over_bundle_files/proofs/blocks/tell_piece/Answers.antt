@@ -2,13 +2,13 @@ use Rattle.std.proofs.Common.{◌≡◌, ℕ, ◌+◌, ◌⊎◌, inl, inr, true
 use Rattle.std.proofs.lemmas.List.{drop_all, length-take-le, take_rest}
 use Rattle.link_cbor.proofs.Joins.{joined_run}
 use Rattle.link_bundle_blocks.specs.Bundle.{bundle_goes, blocks_in}
-use Rattle.link_bundle_blocks.proofs.Showing.{NoBlocksAfterEnd-holds}
+use Rattle.link_bundle_blocks.proofs.Showing.{NoBlocksAfterBundleEnd-holds}
 use Rattle.link_bundle.specs.Scan.{HasScanned, HasJudged, ending}
 use Rattle.link_bundle.proofs.Pieces.{all_judged}
 use Rattle.link_bundle_data_in_pieces.specs.DataReader.{IsDataReaderAt}
 use Rattle.link_bundle_data_in_pieces.proofs.Judged.{seen_all, goes_judged, joined_rest, rest_read}
 use Rattle.link_run.specs.Writers.{on_output}
-use Rattle.link_run_over_bundle_files.specs.Telling.{WritesRest}
+use Rattle.link_run_over_bundle_files.specs.Telling.{WritesRestOfTexts}
 use Rattle.link_run_over_bundle_files.proofs.Told.{told_none, told_known, told_then, told_part}
 use Rattle.link_run_over_bundle_files.proofs.blocks.tell_piece.Given.{Over}
 use Rattle.link_run_over_bundle_files.proofs.blocks.tell_piece.Goals as goal
@@ -29,7 +29,7 @@ loop-taken-init g c = record {
 -- what holds after one more run of the bundle
 record ToldRun (g : Over) (c : After-tell_run g) (seen : List ℕ) (all : List ℕ) : Type 0 where
   come : HasScanned c.feed_block-count.new.self all
-  tells : WritesRest g.W.OutDevice.state g.E.OutDevice.state
+  tells : WritesRestOfTexts g.W.OutDevice.state g.E.OutDevice.state
       (on_output (g.C.BlockConsumer.says c.args.number seen))
       (on_output (g.C.BlockConsumer.says c.args.number all))
       (IsDataReaderAt c.tell_run.new.reader all × g.C.BlockConsumer.knows c.tell_run.new.consumer all)
@@ -108,7 +108,7 @@ ends g c seen judged = elim c.loop-taken-test.branch [
 no_more : (bytes rest : List ℕ) → (bundle_goes bytes ≡ false) ⊎ (rest ≡ [])
     → blocks_in (bytes ++ rest) ≡ blocks_in bytes
 no_more bytes rest ends = ⊎_elim
-    (λ stops. NoBlocksAfterEnd-holds bytes rest stops)
+    (λ stops. NoBlocksAfterBundleEnd-holds bytes rest stops)
     (λ none. rw none (ap blocks_in (append-nil bytes)))
     ends
 

@@ -3,7 +3,7 @@ use Rattle.link_wire.specs.Session.{source_of}
 use Rattle.link_run.specs.{Reading.feed_of, Run.looks, Writers.place_of}
 use Rattle.link_run.specs.declared.next.Next.TheVariants as next
 use Rattle.link_run.proofs.{Waiting.waits_then, Stands.last_step}
-use Rattle.link_tool_list.specs.{Listing.listing_of, ListRun.{latest_line, IsListingAt, IsListingAtStage}}
+use Rattle.link_tool_list.specs.{Listing.listing_of, ListRun.{latest_line, IsListingAtBy, IsListingAtStage}}
 use Rattle.link_tool_list.specs.declared.listing.Stage.TheVariants as stage
 use Rattle.link_tool_list.proofs.Lists.{not_far, due_listed, lines_written, goes_kept, step_kept}
 use Rattle.link_tool_list.proofs.listing.step.Goals as goal
@@ -17,7 +17,7 @@ returns-in-Contact-clause-gives g c = λ start history at.
     let new = place_of (source_of input) c.list_contact.new.writers in
     rw c.in-Contact.is (λ begins.
     not_far look start c.args.piece c.args.far stage.Contact old new
-    (IsListingAt g.R.InDevice.state stage.Message latest input) history c.list_contact.result
+    (IsListingAtBy g.R.InDevice.state stage.Message latest input) history c.list_contact.result
     c.requires.piece (c.list_contact.ensures.gives start latest history at begins))
 
 pub returns-in_default-later : goal.returns-in_default-later

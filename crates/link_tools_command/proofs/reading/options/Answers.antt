@@ -2,7 +2,7 @@ use Rattle.std.proofs.Common.{◌≡◌, true, List, Option, Err, inr, map, stri
 use Rattle.std.proofs.lemmas.Result.{IfErr-weaker, IfOk-weaker}
 use Rattle.std.specs.Prelude.{IfErr, IfOk}
 use Rattle.clap.specs.Words.{App, Row, Text, app_of, kind_of, takes}
-use Rattle.link_tools_command.specs.{Invoked.IsInvokedByTool, Reading.IsUsageFaultOf}
+use Rattle.link_tools_command.specs.{Invoked.IsInvocationOfTool, Reading.MayBeFaultOfMatches}
 use Rattle.link_tools_command.proofs.Taken.{clap_fault, failed, parsed, tool_fault}
 use Rattle.link_tools_command.proofs.reading.options.Goals as goal
 
@@ -22,10 +22,10 @@ returns-in-Ok-try_get_matches_from c =
     let invoked = c.invocation.ensures in
     record {
       ok = subst (λ (tool : Option (Text × List Row)).
-          IfOk c.invocation.result (IsInvokedByTool tool)) known.1 invoked.ok;
+          IfOk c.invocation.result (IsInvocationOfTool tool)) known.1 invoked.ok;
       taken = IfOk-weaker c.invocation.result _ _ (λ invocation _. known.0) invoked.ok;
       err = IfErr-weaker c.invocation.result _ _ (tool_fault words known.0)
-          (subst (λ (tool : Option (Text × List Row)). IfErr c.invocation.result (IsUsageFaultOf tool))
+          (subst (λ (tool : Option (Text × List Row)). IfErr c.invocation.result (MayBeFaultOfMatches tool))
           known.1 invoked.err);
       passes = search rules;
     }

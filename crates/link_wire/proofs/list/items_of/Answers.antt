@@ -1,7 +1,7 @@
 use Rattle.std.proofs.Common.{◌≡◌, ℕ, suc, ◌-◌, ◌<◌, [], length, Ok, arith, rules, append-nil}
 use Rattle.std.proofs.lemmas.{Bool.Decides.nat_tests, List.Elements.All-push}
 use Rattle.link_wire.proofs.Gettings.{exit, leaving, after, pure, is_live}
-use Rattle.link_wire.specs.Message.{items_of, TotalFits}
+use Rattle.link_wire.specs.Message.{items_of, HasTotalIfLengthItem}
 use Rattle.link_wire.proofs.Items.{item_of, with_before-append, items_none, items_exit, items_full, items_exit_total, items_more}
 use Rattle.link_wire.specs.declared.message.TheConstants.{MAX_ITEMS}
 use Rattle.link_wire.proofs.list.items_of.Goals as goal
@@ -46,7 +46,7 @@ loop-left-preserved g c =
           let joined = kept.rest live new _ (items_more _ _ c.loop-left-test.true head _ _ c.in_ok-total.total outcome (room_for_one _ below) total (rw (grown, c.from.ensures) at others)) in
           rw (with_before-append, ← c.push.ensures.items) at joined;
       totals = λ transfer.
-          let more = All-push TotalFits c.loop-left.items.items (item_of c.in_ok-head.head c.in_ok-total.total) (kept.totals transfer) (λ kind size. c.in_ok-total.ensures.some (rw (transfer, kind, size) (search rules))) in
+          let more = All-push HasTotalIfLengthItem c.loop-left.items.items (item_of c.in_ok-head.head c.in_ok-total.total) (kept.totals transfer) (λ kind size. c.in_ok-total.ensures.some (rw (transfer, kind, size) (search rules))) in
           rw (← c.push.ensures.items) at more;
     }
 

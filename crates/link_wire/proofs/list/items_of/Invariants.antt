@@ -1,6 +1,6 @@
 use Rattle.std.proofs.Common.{◌≡◌, ◌-◌, ◌≤◌, length, Result, List}
 use Rattle.link_io.specs.Source.{IsLive}
-use Rattle.link_wire.specs.{Message.{TotalsFit, items_at}, Getting.ReadsPart}
+use Rattle.link_wire.specs.{Message.{HaveTotalsIfLengthItems, items_at}, Getting.ReadsPart}
 use Rattle.link_wire.proofs.Items.{with_before}
 use Rattle.link_wire.specs.declared.{message.TheConstants.MAX_ITEMS, halt.Halt.Halt}
 use Rattle.link_wire.specs.declared.message.{Item.Item, ListOf.TheVariants.Transfer}
@@ -20,7 +20,7 @@ invariant-loop-left g l =
           → ReadsPart look (items_at l.owner (MAX_ITEMS - length l.items.items) l.left) l.source new outcome
           → ReadsPart look (items_at l.owner MAX_ITEMS l.length) l.fn.source new
           (with_before l.items.items outcome);
-      totals : l.owner ≡ Transfer → TotalsFit l.items.items;
+      totals : l.owner ≡ Transfer → HaveTotalsIfLengthItems l.items.items;
     }
 
 abbrev pub decreases-loop-left : goal.decreases-loop-left

@@ -1,6 +1,6 @@
 use Rattle.std.proofs.Common.{◌≡◌, ◌-◌, ◌<◌, suc, [], ◌∷◌, ◌++◌, length, Some, sym, ap, ◌∙◌, length-append, arith, rules}
 use Rattle.std.proofs.lemmas.{Bool.Decides.nat_tests, List.Elements.All-push}
-use Rattle.link_wire.specs.Message.{TotalFits}
+use Rattle.link_wire.specs.Message.{HasTotalIfLengthItem}
 use Rattle.tcpclkit_c.proofs.Items.{announced_all, items_none, items_full, items_bad, items_more, has_total}
 use Rattle.tcpclkit_c.proofs.announced.announced_in.Goals as goal
 
@@ -36,7 +36,7 @@ loop-left-preserved c =
           (kept.reads
           ∙ items_more items _ _ c.loop-left-test.true item _ _ _ _ one lies.head lies.total);
       totals = rw c.push.ensures.items
-          (All-push TotalFits items item kept.totals (has_total item _ _ lies.total));
+          (All-push HasTotalIfLengthItem items item kept.totals (has_total item _ _ lies.total));
       within = rw c.from.ensures lies.within;
     }
 

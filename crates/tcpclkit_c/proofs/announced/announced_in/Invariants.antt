@@ -1,5 +1,5 @@
 use Rattle.std.proofs.Common.{◌≡◌, ◌≤◌, ◌-◌, length, drop}
-use Rattle.link_wire.specs.Message.{items_at, items_of, TotalsFit}
+use Rattle.link_wire.specs.Message.{items_at, items_of, HaveTotalsIfLengthItems}
 use Rattle.link_wire.specs.declared.message.ListOf.TheVariants.{Transfer}
 use Rattle.tcpclkit_c.specs.Announced.{announced_part}
 use Rattle.tcpclkit_c.proofs.Items.{announced_then}
@@ -11,7 +11,7 @@ invariant-loop-left l = record {
   reads : announced_part (items_of Transfer l.size (drop l.start l.bytes))
       ≡ announced_then l.items.items
       (items_at Transfer (64 - length l.items.items) l.left (drop l.at l.bytes));
-  totals : TotalsFit l.items.items;
+  totals : HaveTotalsIfLengthItems l.items.items;
   within : l.at ≤ length l.bytes;
 }
 

@@ -1,7 +1,7 @@
 -- The memory is lent to `end` as a scan to look at, for a lifetime that ends with the call.
 use Rattle.tcpclkit_c.proofs.Walks.{ℕ, [], ◌∷◌, ◌++◌, refl, w32, w64, Bor, proved, full_share, id⊢, ftrue, flft, named, vint, vptr, fact, tables, lft_new, lft_end, lent_back, ‵, raw, ◌⊛◌, some, later, prop, ◌$◌, ◌∵◌, !, qed, done, move, drop, use1, use2, split, join, fsplit, fpick, pick, await, regoal, suffices, group, enter, of_opd, addr, stop, no_more, and_then, returns, alloc_all, pass_all, free_all, look_at, get, through, sets, lands_as, u32, u64, shows, Is, uint_Lawful, uint_vals, uint_Tells, Ptr, RawPtr, block_ptr, lies_at, in_a_block, rawptr_vals, rawptr_Tells, MutRef, mut_vals, mut_Tells, nothing, heard, peeks, calls_at, Lasts, lasts, triple_of, walk_of, ends_at, framed, states, passed, passed-go}
 use prog.Wp.{WpFn}
-use Rattle.tcpclkit_c.specs.{declared.scan.MarkedScan.MarkedScan, Scan.{ReadsScan, EndsMarkedScan}}
+use Rattle.tcpclkit_c.specs.{declared.scan.MarkedScan.MarkedScan, Scan.{ReadsScan, EndsScanIfAny}}
 use Rattle.tcpclkit_c.specs.contracts.scan.MarkedScan.{the_row as R}
 use Rattle.tcpclkit_c.proofs.Lending.{lent_scan, lends_scan, held_scan}
 use Rattle.link_ffi_numbers.specs.contracts.bundle.Verdict.{the_row as V}
@@ -46,7 +46,7 @@ tcpclkit_raw_end_scan_spec 𝓤 𝓛 𝓜 𝓡 wired =
     (and_then ! (get ! refl) (and_then ! (get ! refl) (and_then ! (get ! refl) (no_more !)))) (λ v.
     use1 𝓛 (later (some (λ (r : ℕ). ((‵ (flft κ full_share) ⊛ Tokens) ⊛ ‵ (u32.own_val r (v ∷ []))) ⊛
     some (λ (ws : Lasts g.ended z.0.0 z.0.3). ‵ (lasts g.ended z.0.0 z.0.3 ws) ⊛
-    raw (fact 𝓤 (EndsMarkedScan scan count answer.now ws.1.1.0 r)))))) (id⊢ 𝓤 _) $
+    raw (fact 𝓤 (EndsScanIfAny scan count answer.now ws.1.1.0 r)))))) (id⊢ 𝓤 _) $
     await ! tt $ pick ! (λ r. split ! $ split ! $ split ! $ lft_end ! tt $
     move ! (2 ∷ []) $ peeks ! u32 (Is u32) (shows 𝓛 u32) r (v ∷ []) (λ is. lands_as ! refl refl ((uint_Lawful 𝓛 w32).typed r _ is).0 $
     move ! (3 ∷ []) $ pick ! (λ ws. split ! $ move ! (1 ∷ []) $ heard ! _ (λ gives.

@@ -3,7 +3,7 @@ use Rattle.tcpclkit_c.proofs.Walks.{ℕ, [], ◌∷◌, ◌++◌, length, refl, 
 use prog.Wp.{WpFn}
 use Rattle.tcpclkit_c.specs.declared.scan.MarkedScan.{MarkedScan}
 use Rattle.tcpclkit_c.specs.contracts.scan.MarkedScan.{the_row as R}
-use Rattle.tcpclkit_c.specs.Scan.{HoldsScan, FeedsMarkedScan, fed}
+use Rattle.tcpclkit_c.specs.Scan.{HoldsScan, FeedsScanIfAny, fed}
 use Rattle.tcpclkit_c.specs.contracts.scan.tcpclkit_raw_feed_scan as f
 use Rattle.tcpclkit_c.specs.contracts.scan.feed as g
 use Rattle.tcpclkit_c.proofs.scan.{tcpclkit_raw_feed_scan.Statement.statement, feed.Met.met}
@@ -47,7 +47,7 @@ tcpclkit_raw_feed_scan_spec 𝓤 𝓛 𝓜 𝓡 wired =
     (and_then ! (get ! refl) (and_then ! (get ! refl) (and_then ! (get ! refl) (no_more !)))) (λ v.
     use1 𝓛 (later (some (λ (r : ℕ). ((‵ (flft κ full_share) ⊛ Tokens) ⊛ ‵ (u32.own_val r (v ∷ []))) ⊛
     some (λ (ws : Lasts g.ended z.0.0 z.0.3). ‵ (lasts g.ended z.0.0 z.0.3 ws) ⊛
-    raw (fact 𝓤 (FeedsMarkedScan scan piece.now ws.0 ws.1.1.0 r)))))) (id⊢ 𝓤 _) $
+    raw (fact 𝓤 (FeedsScanIfAny scan piece.now ws.0 ws.1.1.0 r)))))) (id⊢ 𝓤 _) $
     await ! tt $ pick ! (λ r. split ! $ split ! $ split ! $ lft_end ! tt $
     move ! (2 ∷ []) $ peeks ! u32 (Is u32) (shows 𝓛 u32) r (v ∷ []) (λ is. lands_as ! refl refl ((uint_Lawful 𝓛 w32).typed r _ is).0 $
     move ! (3 ∷ []) $ pick ! (λ ws. split ! $ move ! (1 ∷ []) $ heard ! _ (λ gives. fsplit ! $

@@ -3,7 +3,7 @@ use Rattle.tcpclkit_c.proofs.Walks.{ℕ, [], ◌∷◌, ◌++◌, length, refl, 
 use prog.Wp.{WpFn}
 use Rattle.tcpclkit_c.specs.declared.scan.MarkedScan.{MarkedScan}
 use Rattle.tcpclkit_c.specs.{contracts.scan.MarkedScan.the_row as R, Scan.HoldsScan}
-use Rattle.tcpclkit_c.specs.NextBlock.{FeedsMarkedBlock, fed_block}
+use Rattle.tcpclkit_c.specs.NextBlock.{FeedsToBlockEndIfAnyScan, fed_block}
 use Rattle.link_ffi_numbers.specs.contracts.block.BlockNumbers.{the_row as B}
 use Rattle.tcpclkit_c.specs.contracts.scan.tcpclkit_raw_next_block as f
 use Rattle.tcpclkit_c.specs.contracts.scan.next_block as g
@@ -50,7 +50,7 @@ tcpclkit_raw_next_block_spec 𝓤 𝓛 𝓜 𝓡 wired =
     (and_then ! (get ! refl) (and_then ! (get ! refl) (and_then ! (get ! refl) (and_then ! (get ! refl) (no_more !))))) (λ v.
     use1 𝓛 (later (some (λ (r : ℕ). ((‵ (flft κ full_share) ⊛ Tokens) ⊛ ‵ (u32.own_val r (v ∷ []))) ⊛
     some (λ (ws : Lasts g.ended z.0.0 z.0.3). ‵ (lasts g.ended z.0.0 z.0.3 ws) ⊛
-    raw (fact 𝓤 (FeedsMarkedBlock scan piece.now ws.0 ws.1.1.0 ws.1.1.1.0 r)))))) (id⊢ 𝓤 _) $
+    raw (fact 𝓤 (FeedsToBlockEndIfAnyScan scan piece.now ws.0 ws.1.1.0 ws.1.1.1.0 r)))))) (id⊢ 𝓤 _) $
     await ! tt $ pick ! (λ r. split ! $ split ! $ split ! $ lft_end ! tt $
     move ! (2 ∷ []) $ peeks ! u32 (Is u32) (shows 𝓛 u32) r (v ∷ []) (λ is. lands_as ! refl refl ((uint_Lawful 𝓛 w32).typed r _ is).0 $
     move ! (3 ∷ []) $ pick ! (λ ws. split ! $ move ! (1 ∷ []) $ heard ! _ (λ gives. fsplit ! $

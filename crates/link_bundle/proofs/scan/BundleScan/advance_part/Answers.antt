@@ -4,7 +4,7 @@ use Rattle.link_bundle.proofs.scan.BundleScan.advance_part.Goals as goal
 
 pub returns-in-BlockData : goal.returns-in-BlockData
 returns-in-BlockData c =
-    let taken = rw c.first_of-run.ensures.run at c.data_run.ensures.taken in
+    let taken = rw c.first_bytes-run.ensures.run at c.data_run.ensures.taken in
     record {
       advances = advances_by (search rules) (search rules) c.data_run.ensures.may_step taken;
       blocks = taken.blocks;

@@ -1,5 +1,5 @@
 use Rattle.std.proofs.Common.{length, ◌-◌, ◌<◌}
-use Rattle.link_bundle.specs.Scan.{AddsBlock}
+use Rattle.link_bundle.specs.Scan.{EndsBlockOnlyAtLastByte}
 use Rattle.link_bundle.proofs.Taking.{HasFed}
 use Rattle.link_bundle.proofs.scan.BundleScan.feed_block.Given as goal
 
@@ -7,7 +7,7 @@ abbrev pub invariant-loop-taken : goal.invariant-loop-taken
 invariant-loop-taken l = record {
   some : 0 < l.taken;
   fed : HasFed l.fn.self l.self l.piece l.taken;
-  blocks : AddsBlock l.fn.self l.self l.piece l.taken;
+  blocks : EndsBlockOnlyAtLastByte l.fn.self l.self l.piece l.taken;
 }
 
 abbrev pub decreases-loop-taken : goal.decreases-loop-taken

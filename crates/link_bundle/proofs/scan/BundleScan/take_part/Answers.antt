@@ -1,6 +1,6 @@
 use Rattle.std.proofs.Common.{◌≡◌, List, ℕ, Err, length, refl, sym, ap, ◌∙◌, arith}
 use Rattle.link_bundle_blocks.specs.Reading.{stopped}
-use Rattle.link_bundle.specs.Stages.{HasCovered, part_reading}
+use Rattle.link_bundle.specs.Stages.{IfAtCheckFieldCovered, part_reading}
 use Rattle.link_bundle.proofs.TakenPart.{HoldsMore, TakesPart, takes_whole, cut_fits, cut_part, lasts_but, fault_part}
 use Rattle.link_bundle.proofs.{ReadParts.{read_fits, whole_part}, Steps.{slice_bytes}}
 use Rattle.link_bundle.proofs.scan.BundleScan.take_part.Goals as goal
@@ -63,7 +63,7 @@ held : (c : In-Err) → HoldsMore c.args.self.now.stage c.args.self.now c.args.p
     → HoldsMore c.args.self.now.stage c.args.self.now c.args.piece.now c.read_part.new.cursor
 held c holds = rw (c.in-Err.ensures.kept.1) holds
 
-fails : (c : In-Err) (covered : List ℕ) → HasCovered c.args.self.now.stage c.read_part.new.cursor.check covered
+fails : (c : In-Err) (covered : List ℕ) → IfAtCheckFieldCovered c.args.self.now.stage c.read_part.new.cursor.check covered
     → part_reading c.args.self.now.stage c.args.self.now.draft.numbers covered c.read_part.new.cursor.hold
     ≡ Err (stopped c.in-Err.stop.fault c.in-Err.stop.offset)
 fails c covered covers =

@@ -1,7 +1,7 @@
 use Rattle.std.proofs.Common.{ℕ, ◌+◌, List, ◌∷◌, [], ◌++◌, drop, refl, arith, rules}
 use Rattle.link_cbor.specs.HeadScan.{HasScannedHead}
 use Rattle.link_bundle_blocks.proofs.Seen.{AreBytes-one}
-use Rattle.link_bundle_data.specs.{declared.kind.DataKind.DataKind, Scan.{HasScanned, HasScannedToHead, IsFirstLong}}
+use Rattle.link_bundle_data.specs.{declared.kind.DataKind.DataKind, Scan.{HasScanned, HasHeadToJudge, IsFirstLongHead}}
 use Rattle.link_bundle_data.specs.declared.due.DataStage.TheVariants.{Head}
 use Rattle.link_bundle_data.proofs.Steps.{at_stage, grown_head, grown_bytes, more_head, bad_head}
 use Rattle.link_bundle_data.proofs.LongHeads.{long_at, long_more}
@@ -10,7 +10,7 @@ use Rattle.link_bundle_data.proofs.scan.DataScan.head_byte.Goals.{After-outcome}
 
 -- the head with the byte
 grown : (c : After-outcome) {kind : DataKind} {seen : List ℕ} → HasScanned kind c.args.self.now seen
-    → HasScannedToHead kind c.args.due c.args.self.now.draft c.args.self.now.offset
+    → HasHeadToJudge kind c.args.due c.args.self.now.draft c.args.self.now.offset
     (c.args.self.now.count + 1) (seen ++ c.args.byte ∷ [])
 grown c come =
     grown_head (at_stage c.args.self.now c.requires.stage come) (c.args.byte ∷ [])
@@ -23,7 +23,7 @@ scanned c come = grown_bytes (at_stage c.args.self.now c.requires.stage come) c.
 
 -- the first long head, with the byte
 more : (c : After-outcome) {kind : DataKind} {seen : List ℕ} → HasScanned kind c.args.self.now seen
-    → IsFirstLong (Head c.args.due) c.args.self.now.long c.args.self.now.offset
+    → IsFirstLongHead (Head c.args.due) c.args.self.now.long c.args.self.now.offset
     (seen ++ c.args.byte ∷ [])
 more c {seen = seen} come =
     let now = c.args.self.now in

@@ -14,6 +14,6 @@ returns-in-Ok-clause-seen c = λ kind seen come long whole sized fresh. record {
 
 pub returns-in-Err-clause-seen : goal.returns-in-Err-clause-seen
 returns-in-Err-clause-seen c = λ kind seen come long whole sized fresh. record {
-  state = refused come whole sized c.in-Err.ensures.judged c.is_limit.ensures;
+  state = refused come whole sized c.in-Err.ensures.judged c.exceeds_limit.ensures;
   long = tt;
 }

@@ -1,6 +1,6 @@
 use Rattle.std.proofs.Common.{◌≡◌, take}
-use Rattle.link_bundle_rules.specs.ReadBundle as block
-use Rattle.link_bundle_rules.specs.ReadBundle.{count_of_type}
+use Rattle.link_bundle_rules.specs.BundleFacts as block
+use Rattle.link_bundle_rules.specs.BundleFacts.{count_of_type}
 use Rattle.link_bundle_rules.proofs.block.Counts.of.Given as goal
 
 abbrev pub invariant-loop-block : goal.invariant-loop-block

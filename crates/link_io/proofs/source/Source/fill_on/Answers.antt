@@ -2,7 +2,7 @@ use Rattle.std.proofs.Common.{◌≡◌, ◌+◌, ◌<◌, ℕ, List, [], ◌∷
 use Rattle.std.specs.Prelude.{IsErrAnd}
 use Rattle.std.proofs.Math.Seq.{take-add}
 use Rattle.link_io.specs.Device.{Input}
-use Rattle.link_io.specs.Source.{at_hand, filled_at_end, HasEnded, StoppedSlice, AfterFill}
+use Rattle.link_io.specs.Source.{at_hand, filled_at_end, HasEnded, FailedSlice, AfterFill}
 use Rattle.link_io.specs.declared.fault.IoFault.{IoFault}
 use Rattle.link_io.specs.declared.source.{Filled.Filled, Source.Source}
 use Rattle.link_io.specs.declared.source.Filled.TheVariants as filled
@@ -19,7 +19,7 @@ ended_at (byte ∷ buffer) at some none = ap (λ n. Ok (filled.Ended n)) none
 -- a `?` that returns the fault of a source
 stopped : {R : Type 0} (look : R → Input) (old new : Source R) (buffer : List ℕ) (fault : IoFault)
     (outcome : Result Filled IoFault) → IsErrAnd outcome (λ e. e ≡ fault)
-    → StoppedSlice look old new buffer fault → AfterFill look old new buffer outcome
+    → FailedSlice look old new buffer fault → AfterFill look old new buffer outcome
 stopped look old new buffer fault (Ok filled) is slice = absurd is
 stopped look old new buffer fault (Err e) is slice = rw is slice
 

@@ -2,7 +2,7 @@ use Rattle.std.proofs.Common.{◌≡◌, ◌+◌, ◌-◌, ◌≤◌, ℕ, List,
 use Rattle.std.proofs.lemmas.List.{take-append-drop}
 use Rattle.std.proofs.lemmas.List.Elements.{All-take}
 use Rattle.link_io.specs.{Bytes.IsByte, Limits.{longest_input, window_size}, Source.{held_from, window_of}}
-use Rattle.link_io.proofs.{Sources.{Consumes-window, KeepsWindowUnlessGiven-drop}, Windows.range_rest}
+use Rattle.link_io.proofs.{Sources.{Consumes-window, KeepsWindowOrMakesRoom-drop}, Windows.range_rest}
 use Rattle.link_io.proofs.source.Source.give.Goals as goal
 
 pub returns-clause-takes : goal.returns-clause-takes
@@ -16,7 +16,7 @@ returns-clause-takes g c =
       next = rw (range_rest s.window s.start s.end c.args.count within) (Consumes-window (window_of s) (look s.reader).left c.args.count);
       count = omega (arith, c.requires, length-take c.args.count (window_of s));
       device = refl;
-      window = KeepsWindowUnlessGiven-drop s _ c.args.count (range_rest s.window s.start s.end c.args.count within) room;
+      window = KeepsWindowOrMakesRoom-drop s _ c.args.count (range_rest s.window s.start s.end c.args.count within) room;
     }
 
 pub returns-clause-rest : goal.returns-clause-rest

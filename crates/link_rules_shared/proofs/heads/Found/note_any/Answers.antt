@@ -3,7 +3,7 @@ use Rattle.std.specs.{Bool.then_some, Option.option_or}
 use Rattle.link_cbor.specs.declared.head.Head.{Head as HeadItem}
 use Rattle.link_rules_shared.specs.declared.heads.Found.{Found}
 use Rattle.link_rules_shared.specs.Heads.{is_long, is_open_string, is_open_item, is_encoded}
-use Rattle.link_rules_shared.specs.HeadWalk.{NotesItemHead, noted}
+use Rattle.link_rules_shared.specs.HeadWalk.{NotesCborHead, noted}
 use Rattle.link_rules_shared.proofs.Walks.{or_none}
 use Rattle.link_rules_shared.proofs.heads.Found.note_any.Goals as goal
 use Rattle.link_rules_shared.proofs.heads.Found.note_any.Goals.{then-is_long, else-is_long}
@@ -16,7 +16,7 @@ others : (old middle new : Found) (offset : ℕ) (head : HeadItem) (size : ℕ)
     → new.item ≡ option_or middle.item (then_some item offset)
     → new.encoded ≡ option_or middle.encoded (then_some encoded offset)
     → string ≡ is_open_string head size → item ≡ is_open_item head size
-    → encoded ≡ is_encoded head size → NotesItemHead old new offset head size
+    → encoded ≡ is_encoded head size → NotesCborHead old new offset head size
 others old middle new offset head size string item encoded l s i e long strings items encodeds is
     are has = record {
       long = long ∙ l;

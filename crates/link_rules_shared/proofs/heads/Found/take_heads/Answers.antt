@@ -1,6 +1,6 @@
 use Rattle.std.proofs.Common.{◌≡◌, ℕ, ◌+◌, ◌-◌, ◌^◌, ◌<◌, ◌≤◌, List, ◌++◌, length, take, drop, sym, subst, ◌∙◌, length-drop, arith}
 use Rattle.std.proofs.lemmas.List.{take_rest}
-use Rattle.link_rules_shared.specs.{HeadWalk.HasFound, declared.heads.WalkStage.TheVariants.Inside}
+use Rattle.link_rules_shared.specs.{HeadWalk.AreFirstSoughtHeads, declared.heads.WalkStage.TheVariants.Inside}
 use Rattle.link_rules_shared.proofs.{SmallHeads.found_small, Walks.{fewer, found_head, found_content}}
 use Rattle.link_rules_shared.proofs.heads.Found.take_heads.Goals as goal
 use Rattle.link_rules_shared.proofs.heads.Found.take_heads.Goals.{After-content_size-content}
@@ -18,8 +18,8 @@ ends c =
 -- what is found after the head
 noted : (c : After-content_size-content) (seen : List ℕ) → c.args.offset ≡ length seen
     → length (seen ++ take (c.loop-taken.taken + c.in-Some.size) c.args.piece.now) < 2 ^ 63
-    → HasFound c.args.self.now (Inside 0) seen
-    → HasFound c.note.new.self (Inside c.content_size-content.result)
+    → AreFirstSoughtHeads c.args.self.now (Inside 0) seen
+    → AreFirstSoughtHeads c.note.new.self (Inside c.content_size-content.result)
     (seen ++ take (c.loop-taken.taken + c.in-Some.size) c.args.piece.now)
 noted c seen here small come =
     let piece = c.args.piece.now in
@@ -39,7 +39,7 @@ returns-then-content-left-clause-found c seen here small come =
     let taken = c.loop-taken.taken + c.in-Some.size in
     let left = length piece - taken in
     let all : taken + left ≡ length piece = omega (arith, ends after) in
-    subst (λ (count : ℕ). HasFound c.note.new.self (Inside (content - left))
+    subst (λ (count : ℕ). AreFirstSoughtHeads c.note.new.self (Inside (content - left))
     (seen ++ take count piece)) all
     (found_content c.note.new.self content left taken seen piece
     (noted after seen here (fewer seen piece taken (length piece) (omega arith) small) come)
@@ -56,7 +56,7 @@ loop-taken-preserved c =
       within = within;
       found = λ seen here small come.
           let none : content - content ≡ 0 = omega arith in
-          subst (λ (left : ℕ). HasFound c.note.new.self (Inside left)
+          subst (λ (left : ℕ). AreFirstSoughtHeads c.note.new.self (Inside left)
           (seen ++ take (taken + content) piece)) none
           (found_content c.note.new.self content content taken seen piece
           (noted after seen here (fewer seen piece taken _ (omega arith) small) come)

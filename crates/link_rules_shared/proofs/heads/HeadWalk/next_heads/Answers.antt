@@ -1,5 +1,5 @@
 use Rattle.std.proofs.Common.{ℕ, ◌^◌, ◌<◌, List, ◌++◌, length, take, subst, arith}
-use Rattle.link_rules_shared.specs.HeadWalk.{HasFound, HasWalked}
+use Rattle.link_rules_shared.specs.HeadWalk.{AreFirstSoughtHeads, HasWalked}
 use Rattle.link_rules_shared.specs.declared.heads.WalkStage.TheVariants.{Inside}
 use Rattle.link_rules_shared.proofs.Walks.{at_stage, fewer, first_byte, found_none, head_begun}
 use Rattle.link_rules_shared.proofs.heads.HeadWalk.next_heads.Goals as goal
@@ -14,7 +14,7 @@ returns-then-taken-eq0-clause-taken c = record {
       let at = at_stage now _ seen c.requires.stage come in
       let few : length (seen ++ take taken piece) < 2 ^ 63 =
       fewer seen piece taken 1 (omega arith) small in
-      let sought : HasFound found (Inside 0) seen =
+      let sought : AreFirstSoughtHeads found (Inside 0) seen =
       found_none found c.take_heads-taken.result.1 taken seen piece
       (c.take_heads-taken.ensures.none c.if-taken-eq0.true) c.if-taken-eq0.true
       (c.take_heads-taken.ensures.found seen at.counted few at.sought) in

@@ -5,7 +5,7 @@ use Rattle.link_report_broken_rules.specs.declared.line.RuleText.{RuleText}
 use Rattle.link_run_over_transfers.specs.Telling.{HeadComes, data_ends, viewed_head}
 use Rattle.link_run_over_transfers.specs.Walk.{Head, WalkEvent, ContactHeader, LeftOpen, MessageHead, closes, has_open, is_beginning}
 use Rattle.link_tool_check.specs.Checker.{IsCheckedTransferAtLatest, IsCheckerAt, closed_due, kept_of}
-use Rattle.link_tool_check.specs.Checking.{Begun, begun_by, broken_by, head_rules, judged, with_bytes}
+use Rattle.link_tool_check.specs.Checking.{BegunTransfer, begun_by, broken_by, head_rules, judged, with_bytes}
 use Rattle.link_tool_check.specs.declared.checker.Checker.{Checker}
 use Rattle.link_tool_option_types.specs.declared.check.CheckOptions.{CheckOptions}
 use Rattle.link_run_over_bundle_files.proofs.Told.{on_ok_by}
@@ -36,7 +36,7 @@ module _ (options : CheckOptions) (before : List WalkEvent) (head : Head) where
   abbrev own : List RuleText
   own = head_rules options (kept_of options before).heads head
 
-  abbrev latest : Option Begun
+  abbrev latest : Option BegunTransfer
   latest = begun_by head (kept_of options before).latest
 
   abbrev closed : List RuleText

@@ -5,11 +5,11 @@ use Rattle.link_bundle.proofs.Pieces.{verdict_judged}
 use Rattle.link_report_broken_rules.specs.declared.rule.BrokenRule.TheVariants.{Bundle, Transfer}
 use Rattle.link_report_broken_rules.specs.declared.rule.BundlePlace.TheVariants as place
 use Rattle.link_tool_check.specs.{BundleRules.bundle_rules, Checker.IsCheckedTransferAt}
-use Rattle.link_tool_check.specs.{Checking.{Begun, data_rules}, Lines.at_offset}
+use Rattle.link_tool_check.specs.{Checking.{BegunTransfer, data_rules}, Lines.at_offset}
 use Rattle.link_tool_check.proofs.transfer.CheckedTransfer.write_data.Goals as goal
 
 -- the rules of a good bundle are those that were written
-good_are : (g : _) (c : goal.After-write_rules g) (begun : Begun) → IsCheckedTransferAt c.args.self.now begun
+good_are : (g : _) (c : goal.After-write_rules g) (begun : BegunTransfer) → IsCheckedTransferAt c.args.self.now begun
     → at_offset c.args.self.now.offset (map
     (λ rule. Bundle (place.Transfer c.args.self.now.judge.id) rule)
     (bundle_rules begun.content (viewed_info c.in-Ok.info)))
@@ -28,7 +28,7 @@ returns-in-Ok g c = λ begun checks.
     refl)
 
 -- the rule of data that is no bundle is the one that was written
-bad_are : (g : _) (c : goal.After-write_rules-in-Err g) (begun : Begun) → IsCheckedTransferAt c.args.self.now begun
+bad_are : (g : _) (c : goal.After-write_rules-in-Err g) (begun : BegunTransfer) → IsCheckedTransferAt c.args.self.now begun
     → at_offset c.args.self.now.offset
     (map (λ rule. Transfer c.args.self.now.judge.id rule) (c.data_rule-rule.result ∷ []))
     ≡ at_offset begun.offset (data_rules begun.first.id begun.content (verdict begun.content))

@@ -1,6 +1,6 @@
 use Rattle.std.proofs.Common.{◌++◌, refl, ap, ◌∙◌}
 use Rattle.link_bundle_types.specs.BundleView.{viewed_info}
-use Rattle.link_run_over_bundle_files.specs.Bundles.{Packed}
+use Rattle.link_run_over_bundle_files.specs.Bundles.{BundleWithInfo}
 use Rattle.link_tool_pack.specs.{More.id_at, MoreRun.more_texts_of}
 use Rattle.link_tool_pack.proofs.{MoreOutcomes.{texts_grown, texts_whole}, Outcomes.{went_on, lost, with_line}}
 use Rattle.link_tool_pack.proofs.more.MorePackerBundleConsumer.run.Goals as goal
@@ -17,7 +17,7 @@ pub returns-in-Err-clause-gives : goal.returns-in-Err-clause-gives
 returns-in-Err-clause-gives g c = λ before keeps. rw c.in-Some.is (λ comes.
     let options = c.args.options.now in
     let known = c.id_of-id.ensures ∙ ap (id_at options) comes.numbered in
-    let bundle : Packed = record { bytes = before.begun ++ c.args.run.now.bytes.now; info = viewed_info c.in-Some.whole.info } in
+    let bundle : BundleWithInfo = record { bytes = before.begun ++ c.args.run.now.bytes.now; info = viewed_info c.in-Some.whole.info } in
     lost _ _ options.pack (more_texts_of options) before _ _ _ bundle _ comes.some
     (texts_whole options _ _ _ _ bundle known refl comes.some) _ _ _
     (c.in-Err.ensures.gives _ keeps.cut c.requires.few))
@@ -26,7 +26,7 @@ pub returns-in-Ok-clause-gives : goal.returns-in-Ok-clause-gives
 returns-in-Ok-clause-gives g c = λ before keeps. rw c.in-Some.is (λ comes.
     let options = c.args.options.now in
     let known = c.id_of-id.ensures ∙ ap (id_at options) comes.numbered in
-    let bundle : Packed = record { bytes = before.begun ++ c.args.run.now.bytes.now; info = viewed_info c.in-Some.whole.info } in
+    let bundle : BundleWithInfo = record { bytes = before.begun ++ c.args.run.now.bytes.now; info = viewed_info c.in-Some.whole.info } in
     with_line _ _ options.pack (more_texts_of options) before _ _ _ bundle _ comes.some
     (texts_whole options _ _ _ _ bundle known refl comes.some) _ _ _
     (c.in-Ok.ensures.gives _ keeps.cut c.requires.few) _ _

@@ -43,7 +43,7 @@ returns-then-ready-eq0-clause-gives g c = λ history at.
     let some = loaded.some in
     let empty : c.in_ok-ready.ready ≡ 0 = c.if-ready-eq0.true in
     let none : left_of old ≡ 0 = grind (arith, some, empty) in
-    let same = (c.in_ok-ready.ensures.loads.none none (λ stop stopped. let going = at.going in cc)).0 in
+    let same = (c.in_ok-ready.ensures.loads.none_left none (λ stop stopped. let going = at.going in cc)).0 in
     rw same (record {
       room = omega arith;
       gave = data_given old old history [] at (Takes-none g.R.InDevice.state old.source) at.live

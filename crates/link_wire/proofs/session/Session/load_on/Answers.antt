@@ -10,7 +10,7 @@ returns-in-Ok-clause-loads g c =
     let least = length-take old.left (front_of g.R.InDevice.state c.ready_front.new.self) in
     record {
       size = omega (arith, c.in-Ok.ensures.size, c.min.ensures, least);
-      settles = search rules;
+      stops_with = search rules;
       left = search rules;
       gives = λ history at.
           let ready = c.in-Ok.ensures.gives at.live in
@@ -26,14 +26,14 @@ returns-in-Ok-clause-loads g c =
           };
       opened = search rules;
       here = λ some. search rules;
-      none = λ nothing going. absurd (omega (arith, nothing, c.if-self-eq0.false));
+      none_left = λ nothing going. absurd (omega (arith, nothing, c.if-self-eq0.false));
       stopped = search rules;
     }
 
 pub returns-in-Ok-eq0-clause-loads : goal.returns-in-Ok-eq0-clause-loads
 returns-in-Ok-eq0-clause-loads g c = record {
   size = search rules;
-  settles = search rules;
+  stops_with = search rules;
   left = search rules;
   gives = λ history at.
       let old = c.args.self.now in
@@ -44,7 +44,7 @@ returns-in-Ok-eq0-clause-loads g c = record {
       (ap (λ s. s.source) state) (ap (λ s. s.phase) state) c.stop_at.ensures.stop;
   opened = search rules;
   here = λ some. search rules;
-  none = λ nothing going. absurd (omega (arith, nothing, c.if-self-eq0.false));
+  none_left = λ nothing going. absurd (omega (arith, nothing, c.if-self-eq0.false));
   stopped = search rules;
 }
 

@@ -5,7 +5,7 @@ use Rattle.link_wire.proofs.session.Session.next_fields.Goals as goal
 
 pub returns-in-Ok-clause-reads : goal.returns-in-Ok-clause-reads
 returns-in-Ok-clause-reads g c = record {
-  settles = search rules;
+  stops_with = search rules;
   left = search rules;
   again = λ ended.
       absurd (cc (c.in-Ok-Some.field-0-is, (c.in-Ok-Some.ensures.ended ended.1).1));
@@ -23,7 +23,7 @@ returns-in-Ok-clause-reads g c = record {
 
 pub returns-in-Err-fields-clause-reads : goal.returns-in-Err-fields-clause-reads
 returns-in-Err-fields-clause-reads g c = record {
-  settles = search rules;
+  stops_with = search rules;
   left = search rules;
   again = λ ended.
       absurd (cc (c.in-Ok-Some.field-0-is, (c.in-Ok-Some.ensures.ended ended.1).1));

@@ -17,7 +17,8 @@ use Rattle.link_bundle_rules.specs.declared.block.{NodeFacts.NodeFacts, ReportFa
 use Rattle.link_bundle_rules.specs.declared.primary.PrimaryFacts.{PrimaryFacts}
 use Rattle.link_bundle_rules.specs.declared.security.SecurityFacts.{SecurityFacts}
 
-pub record ReadBundle : Type 0 where
+-- what the rules need of a bundle that was read
+pub record BundleFacts : Type 0 where
   pub primary : PrimaryFacts
   -- the canonical blocks, in order
   pub blocks : List BlockFacts
@@ -104,8 +105,9 @@ is_later (Some (offset, total)) = nat_lt 0 offset
 
 -- ---- a canonical block
 
--- Why the data of a block is malformed. The data begins at offset `data_start` of the bundle.
--- RFC 9171 may permit data that exceeds a limit of this toolkit, which is `NotRead`.
+-- What the rules need of a fault in the data of a block. The data begins at offset `data_start` of
+-- the bundle. Data that exceeds a limit of this toolkit is `NotRead`, since RFC 9171 may permit it.
+-- Any other data with a fault is `Malformed`.
 abbrev pub fault_facts : (data_start : ℕ) → DataFault → DataFacts
 fault_facts data_start fault =
     if fault.is_limit
@@ -116,8 +118,9 @@ fault_facts data_start fault =
 abbrev pub node_facts : Eid → NodeFacts
 node_facts node = record { has_bad_name = has_bad_name node; level = node_level node }
 
--- which asserted statuses have a time and which have none, the reason, and the source of the bundle
--- that the status report is about (section 6.1.1)
+-- What the rules need of a status report (section 6.1.1): whether some asserted status has a time,
+-- whether some has none, and the reason. `source` is the source of the bundle that the status
+-- report is about.
 abbrev pub report_facts : Report → Eid → ReportFacts
 report_facts report source = record {
   timed = report.timed;
@@ -195,7 +198,7 @@ if_security block found =
 -- ---- a bundle, block by block
 
 -- a bundle after its primary block
-abbrev pub begun : Primary → Option CheckKind → ReadBundle
+abbrev pub begun : Primary → Option CheckKind → BundleFacts
 begun primary check = record {
   primary = primary_facts primary check;
   blocks = [];
@@ -204,16 +207,16 @@ begun primary check = record {
   payload_length = 0;
 }
 
--- A bundle with another block after its blocks. `long_head` is the offset in the block's data of
--- the first head that is longer than its number needs, of the heads that are read.
-abbrev pub with_block : ReadBundle → CanonicalBlock → Option (Result BlockData DataFault)
-    → (long_head : Option ℕ) → ReadBundle
+-- A bundle with one more block at the end. `long_head` is the offset in the block's data of the
+-- first head that is longer than its number needs. Heads that are not read do not count.
+abbrev pub with_block : BundleFacts → CanonicalBlock → Option (Result BlockData DataFault)
+    → (long_head : Option ℕ) → BundleFacts
 with_block bundle block found long_head = record bundle {
   blocks = bundle.blocks ++ block_facts block found long_head ∷ [];
   security = bundle.security ++ if_security block found;
 }
 
--- the offset in the bundle at which the data of a block is malformed
+-- the offset in the bundle of the fault in the data of a block, if there is one
 abbrev pub malformed_at : CanonicalBlock → Option (Result BlockData DataFault) → Option ℕ
 malformed_at block (Some (Err fault)) = Some (block.data_start + fault.offset)
 malformed_at block _ = None
