@@ -75,7 +75,7 @@ part_start cursor = cursor.count - length cursor.hold
 
 -- The held bytes begin with the part of a stage, which has `size` bytes. The draft `new` keeps the
 -- fields of the part. A check field and the break have none. `next` is the stage after the part. If
--- the part is the heads of a block, `check` covers them.
+-- the part is the heads of a block with a check, `check` covers them.
 abbrev pub PartLeadsTo : ScanStage → Draft → Cursor → ℕ → ScanStage → Draft → Check → Type 0
 PartLeadsTo PrimaryBlock old cursor size next new check =
     (whole_primary cursor.hold ≡ Ok ((primary_of new, new.check), size)) × (next ≡ BlockHeads)

@@ -106,8 +106,8 @@ abbrev pub stage_in_data : ℕ → Option CheckKind → Option (ℕ × ℕ) → 
 stage_in_data left check payload =
     if nat_lt 0 left then BlockData left else stage_after_data check payload
 
--- The first `held` bytes end inside a part, and all bytes do not. Then the first `shown` bytes do
--- not end inside the part, and the first `shown - 1` bytes do.
+-- If the first `held` bytes end inside a part, and all bytes do not, then the first `shown` bytes
+-- do not end inside the part, and the first `shown - 1` bytes do.
 abbrev pub IsLeastNotCutShort : (List ℕ → Result ℕ Stop) → (held shown : ℕ) → List ℕ → Type 0
 IsLeastNotCutShort reading held shown bytes =
     is_cut (reading (take held bytes)) ≡ true → is_cut (reading bytes) ≡ false

@@ -34,7 +34,7 @@ pub(crate) fn read_part(
     ensures hold { cursor.new.hold ≡ cursor.old.hold }
     ensures ends { (covered : List ℕ) → IfAtCheckFieldCovered stage cursor.old.check covered
         → part_reading stage draft.old.numbers covered cursor.old.hold ≡ part_end result }
-    // The result is the same for any check value, unless it is a fault that lasts.
+    // `any_reading` has the same size, or the same fault if that does not last.
     ensures any { MatchResult result
         (λ read. any_reading stage draft.old.numbers cursor.old.hold ≡ Ok read.0)
         (λ stop. lasts stop.fault ≡ false

@@ -59,8 +59,9 @@ NoBlocksAfterBundleEnd =
 abbrev pub BlocksWithin : Type 0
 BlocksWithin = (bytes : List ℕ) → All (LiesWithin (length bytes)) (blocks_in bytes)
 
--- `block` is the first canonical block that is not whole in `bytes`, if `more` shows it. `bytes`
--- ends in its data or check field, or its data begins after `bytes`.
+-- `block` is the first block that `more` makes whole, if it is canonical. If `more` makes none
+-- whole, `block` is the one in whose data or check field all bytes end. `bytes` ends in the data or
+-- check field of `block`, or this data begins after `bytes`.
 abbrev pub NextBlockIsCutOrLater : Type 0
 NextBlockIsCutOrLater =
     (bytes more : List ℕ) (new : List Block) (block : CanonicalBlock) →

@@ -28,8 +28,9 @@ pub fn verdict_lasts()
 /// - More bytes leave the whole blocks as they are, and may add some.
 /// - After the bundle's end, or after a fault that stays, no more blocks are added.
 /// - The whole blocks lie within the bytes.
-/// - Take the first canonical block that is not whole yet. The bytes end in its data or check
-///   field, or its data begins after them.
+/// - Take the next block that more bytes make whole, or else the one in whose data or check field
+///   they end. If it is canonical, the bytes before end in its data or check field, or its data
+///   begins after them.
 pub fn blocks_last()
     ensures grow { BlocksGrow }
     ensures end { NoBlocksAfterBundleEnd }

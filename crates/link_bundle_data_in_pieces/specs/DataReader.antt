@@ -26,7 +26,7 @@ pub record IsDataReaderIn (now : DataReader) (seen : List ℕ) (block : Canonica
 
 -- The reader keeps the flags of the bundle, or 0 if the primary block is not whole. If the bytes
 -- end inside the bundle, in the data or the check field of a block, the reader has read this data
--- so far.
+-- so far, if data of the block's type is read.
 pub record IsDataReaderAt (now : DataReader) (seen : List ℕ) : Type 0 where
   pub flags : now.flags ≡ fold flags_after 0 (blocks_in seen)
   pub at_cut : bundle_goes seen ≡ true → (block : CanonicalBlock)

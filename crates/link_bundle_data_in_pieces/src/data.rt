@@ -67,7 +67,7 @@ impl DataReader {
     }
 
     /// Reads those bytes of a block's data that are in `run`, which follows the first `before`
-    /// bytes of the bundle. If no byte of the data came before `run`, calls `begin` first.
+    /// bytes of the bundle. If the data does not begin before `run`, calls `begin` first.
     #[inline(always)]
     fn take(&mut self, block: &CanonicalBlock, before: u64, run: &[u8])
         requires room { before + length run.now < 2 ^ 63 }

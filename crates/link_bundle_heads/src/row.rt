@@ -234,7 +234,8 @@ pub fn dtn_part(head: Head) -> Result<Option<u64>, BundleFault>
 
 /// The specific part of scheme ipn: the number of elements of its array, two or three.
 ///
-/// The fault of another array is `BadCount`. The fault of another item is `BadSpecificPart`.
+/// The fault of another number of elements is `BadCount`. The fault of another item, or of an array
+/// of indefinite length, is `BadSpecificPart`.
 #[inline(always)]
 #[tactic(auto, unfolding(crate::specs::Rows::ipn_part))]
 pub fn ipn_part(head: Head) -> Result<u64, BundleFault>

@@ -88,7 +88,8 @@ impl BundleHistory {
     }
 
     /// The context of a block confidentiality block has a cipher (RFC 9172 section 3.8, RFC 9173
-    /// sections 3.1 and 5.1). Returns the rule `confidential-context` if a context has none.
+    /// sections 3.1 and 5.1). Returns the rule `confidential-context` if the context of such a
+    /// block is BIB-HMAC-SHA2, which has none.
     #[tactic(auto, unfolding(crate::specs::Security::confidential_context))]
     pub(crate) fn confidential_context(&self) -> Option<BundleRule>
         ensures { (long_head : Option ℕ) (payload_length : ℕ)

@@ -197,7 +197,7 @@ abbrev pub item_part : ListOf → ℕ → List ℕ → Part (Option ℕ)
 item_part owner left bytes = item_head_at left bytes >>= λ (head, rest). total_at owner head.kind head.length rest
 
 -- The numbers describe the item at `offset`, and its value lies where they say. The list of the
--- item has `left` bytes from there on.
+-- item has `left` bytes from `offset` on.
 pub record DescribesItem (owner : ListOf) (bytes : List ℕ) (offset left : ℕ) (answer : Item)
     (status : ℕ) : Type 0 where
   pub found : ItemAt

@@ -66,8 +66,8 @@ module _ {R : Type 0} where
       window_of source
       ++ held_from source.flow (longest_input - taken_by source) (look source.reader).held
 
-  -- The front: the bytes of the window, or, if the window is empty, the bytes that the reader
-  -- holds, up to the limit of an input. They lie in one piece.
+  -- The front: the bytes of the window, or, if the window is empty, the bytes that the source can
+  -- still give of what its reader holds (`held_from`). They lie in one piece.
   unfoldable pub front_of : (R → Input) → Source R → List ℕ
   front_of look source =
       if nat_lt source.start source.end

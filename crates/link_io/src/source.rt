@@ -284,7 +284,7 @@ impl<R: InDevice> Source<R> {
         self.read_on(true)
     }
 
-    /// Takes what the reader holds into the empty window. If the reader holds nothing, reads once.
+    /// Takes bytes at hand into the empty window, as many as fit. If there are none, reads once.
     ///
     /// Returns how many bytes the window then has. After the end or a fault, it does not read.
     /// [`Source::ready`] passes false as `first`. [`Source::ready_front`] passes true, so the read

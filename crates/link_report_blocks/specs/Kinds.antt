@@ -6,7 +6,7 @@ use Rattle.link_bundle_data.specs.declared.kind.DataKind.{DataKind}
 use Rattle.link_bundle_data.specs.declared.kind.DataKind.TheVariants.{PreviousNode, BundleAge, HopCount, Security, Record}
 
 -- Whether the payload of a bundle with these flags is a whole administrative record. Flag 02 marks
--- such a record, and flag 01 marks a fragment (RFC 9171 section 4.2.3).
+-- an administrative record, and flag 01 marks a fragment (RFC 9171 section 4.2.3).
 unfoldable pub is_record : ℕ → Bool
 is_record flags = (bit_and flags 2 == 2) && not (is_fragment flags)
 

@@ -125,7 +125,7 @@ pub record FetchesMessage {R W E : Type 0} (look : Looks R W E)
       (with_message_read (message_of message) result)
   pub waits : (history : List ℕ) → IsSessionAt look.input (feed_of old) history
       → SessionWaitsAtMostOnce look old new before
-  -- if the message is a segment, the total of each Transfer Length item was kept
+  -- if the message is a segment, the total of each Transfer Length item of 8 bytes was kept
   pub totals : IfOk result (λ got. IfSome got (λ offset. IfSegmentItemsHaveTotals message))
   -- after an error, as much data of the open segment is to come as before
   pub left : IfErr result (λ why. left_of (feed_of new) ≡ left_of (feed_of old))

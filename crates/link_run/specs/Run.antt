@@ -219,7 +219,7 @@ module _ {R W E : Type 0} (look : Looks R W E) where
         (look.report now.report).written texts.report
 
   -- As `HasGivenAndWritten`, for the devices that a run has returned. The run took these bytes from
-  -- the reader. It need not have given the last of them.
+  -- the reader. It need not have been given the last of them.
   pub record HasTakenAndWrittenAtEnd (start now : Devices R W E) (bytes : List ℕ)
       (texts : Texts) : Type 0 where
     pub takes : Consumes (look.input start.reader).left (look.input now.reader).left bytes

@@ -22,8 +22,8 @@ unfoldable pub size_of : List BundleWithInfo → ℕ
 size_of bundles = sum_by (λ (bundle : BundleWithInfo). length bundle.bytes) bundles
 
 -- What follows the accepted bundles of an input. No accepted bundle begins there, and `refusal` is
--- the reason. `before_fault` is the bytes before the byte that shows this. If the input ends inside
--- a bundle, it is all bytes of that bundle.
+-- the reason. `before_fault` is the bytes before the byte that shows this. If no byte shows it,
+-- since the input ends inside the bundle, it is all bytes of that bundle.
 pub record TailAfterBundles : Type 0 where
   pub before_fault : List ℕ
   pub refusal : Refusal

@@ -80,7 +80,7 @@ MayCome manner before (view.Data bytes whole) =
 MayCome manner before view.LeftOpen = has_open before ≡ true
 
 -- if this event shows the head of a segment, the segment's buffer contains the total of each
--- Transfer Length item (`IfSegmentItemsHaveTotals`)
+-- Transfer Length item of 8 bytes (`IfSegmentItemsHaveTotals`)
 abbrev pub IfHeadItemsHaveTotals : EventView → Type 0
 IfHeadItemsHaveTotals (view.Head head) = IfSegmentItemsHaveTotals head.message.now
 IfHeadItemsHaveTotals (view.Inner head bytes) = IfSegmentItemsHaveTotals head.message.now

@@ -70,8 +70,9 @@ stage_by turn (suc left) = stage_in turn
 
 -- ---- the head of a message, and the end of a stream
 
--- The consumer was told of a head, and a stage comes next, or a writer failed while writing what is
--- said of the head. `left` bytes of data follow the head.
+-- The consumer was told of a head, unless the head is plain and the consumer is not told of all
+-- heads. A stage comes next, or a writer failed while writing what is said of the head. `left`
+-- bytes of data follow the head.
 abbrev pub TellsHead : {W E : Type 0} → (W → Output) → (E → Output) → Telling
     → (knows : List WalkEvent → Type 0) → (before : List WalkEvent) → Head → (left : ℕ)
     → (old new : Writers W E) → Next Stage → Type 0

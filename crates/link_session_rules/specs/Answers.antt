@@ -93,8 +93,8 @@ answered_id (message.Refuse reason id) = id
 answered_id _ = 0
 
 -- answer-order: transfers are acknowledged one after another, and each segment is acknowledged
--- once. A transfer is refused only before its end is acknowledged (sections 5.2.3 and 5.2.4).
--- Answers before a SESS_INIT are not judged.
+-- once. A transfer is refused before its end is acknowledged, unless the reason is 04 (sections
+-- 5.2.3 and 5.2.4). Answers before a SESS_INIT are not judged.
 unfoldable pub answer_order : List HeadWithOrder → Message → Option MessageRule
 answer_order before message =
     option_and_then

@@ -48,8 +48,8 @@ kept_with id count (run ∷ kept) =
     else record { first = id; last = id } ∷ take count (run ∷ kept)
 
 -- `ids` is what is kept after exactly these messages, the newest first. It is the ends of the
--- latest runs of IDs, and whether an ID was new and not the next one. Without a last run of IDs,
--- there are no earlier ones.
+-- latest runs of IDs, and whether after a SESS_INIT an ID was new and not the next one. Without a
+-- last run of IDs, there are no earlier ones.
 pub record AreTransferIdsAt (ids : TransferIds) (older : List Message) : Type 0 where
   pub runs : map Some (kept_runs ids) ≡ map ends_of (last_runs older)
   pub none : ids.last ≡ None → ids.earlier.items ≡ []

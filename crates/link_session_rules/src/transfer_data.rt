@@ -11,9 +11,10 @@ use link_rules_shared::Unread;
 /// Whether data with a fault at offset `byte` may be a bundle that this toolkit does not read.
 ///
 /// It may be one if the fault is a limit of this toolkit (an endpoint scheme, a long dtn name or
-/// many blocks), or if the data begins with tag 55799. It may also be one if the fault is at a head
-/// of a kind that this toolkit reads nowhere. `unread` says where the first head of each such kind
-/// is.
+/// many blocks). If the fault is `NotABundle`, it may be one if the data begins as a bundle in tag
+/// 55799 does. For four other faults, it may be one if the fault is at a head of a kind that this
+/// toolkit reads nowhere. The fault decides which of these kinds count. `unread` says where the
+/// first head of each such kind is.
 fn may_be_bundle(unread: &Unread, fault: BundleFault, byte: u64) -> bool
     ensures { result ≡ may_be_bundle unread.now fault byte }
 {

@@ -194,7 +194,7 @@ fn judge_inner<W: OutDevice, E: OutDevice>(
 
 /// Does [`judge`] for the head of an inner segment that may break a rule.
 ///
-/// Few inner segments need this call, so it is not inlined.
+/// If no limit of the peer is known, few inner segments need this call. So it is not inlined.
 #[cold]
 #[inline(never)]
 fn judge_apart<W: OutDevice, E: OutDevice>(

@@ -127,8 +127,8 @@ module _ {R : Type 0} (look : R → Input) (first : Texts) where
     pub takes : Takes look (source_of old) (source_of new) given
     pub listed : AreLinesTo new lines (history ++ given)
 
--- Some whole messages were given after the history, or none. After the texts `first`, all lines
--- that the bytes so far determine were written, or a writer failed while writing them.
+-- Some whole messages were given after the history, or none. The lines were written with which the
+-- texts `first` become the texts of all bytes so far, or a writer failed while writing them.
 abbrev pub AfterMessageLines : {R W E : Type 0} → Looks R W E → (first : Texts)
     → (old new : Session R)
     → (before after : Writers W E) → (history : List ℕ) → Result (Unit {0}) IoFault → Type 0

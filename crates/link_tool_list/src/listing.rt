@@ -304,8 +304,8 @@ fn write_lines<R: InDevice, W: OutDevice, E: OutDevice>(
     }
 }
 
-/// Writes the line of the message that was read last. It keeps the first digits of the offset,
-/// which the next lines may share.
+/// Writes the line of the message that was read last. If the offset has more than four digits, it
+/// keeps those before the last four, which the next lines may share.
 #[inline(always)]
 fn write_line<W: OutDevice, E: OutDevice>(
     writers: &mut Writers<W, E>,

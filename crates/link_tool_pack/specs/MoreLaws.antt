@@ -49,7 +49,7 @@ moved_entry first entry = record entry { message = moved first entry.message }
 
 -- With another first ID, the segments are the same except for their IDs. All IDs have to fit. This
 -- includes the ID after the last whole bundle, which the segments of an incomplete bundle have.
--- `stream_at` reads the output as messages. It ends after a whole message (`Clean`).
+-- `stream_at` reads the output as messages. The output ends between two messages (`Clean`).
 abbrev pub SegmentsDifferOnlyInIds : Type 0
 SegmentsDifferOnlyInIds =
     (first : ℕ) (options : PackOptions) (bytes : List ℕ) →

@@ -164,8 +164,8 @@ reported_on wanted bytes =
     lined (stop_of reading.end) (unpacked_of wanted (heads_of reading)).transfers
 
 -- The report with `--keep-going` is the lines of the heads that are not in order and of the
--- transfers that have one, and then the line of the fault at which the reading stops. The lines of
--- the transfers divide the output.
+-- transfers that have one. If the reading stops at a fault, the line of this fault is the last. The
+-- lines of the transfers divide the output.
 pub record ReportDividesOutputKeepGoing (wanted : Wanted) (bytes : List ℕ) : Type 0 where
   pub lines : List ReportLine
   pub report : ((unpack_tool wanted).whole bytes).texts.report

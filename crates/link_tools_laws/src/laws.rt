@@ -134,10 +134,9 @@ pub fn bundles_of_unpack(bytes: &[u8])
 /// The bundles that `unpack` joins break the same rules as in the recording.
 ///
 /// Let `unpack` without options have status 0 for a recording. Then every transfer is over and
-/// good, and there is no fault. Some lines that `check` writes for the recording are of rules of
-/// bundles. For the output of `unpack`, `check --bundles` writes these lines, in the same order.
-/// Only two things differ: the offset, and the number of the bundle, which replaces the ID of its
-/// transfer.
+/// good, and there is no fault. For the recording, `check` may write lines of rules of bundles. For
+/// the output of `unpack`, `check --bundles` writes these lines, in the same order. Only two things
+/// differ: the offset, and the number of the bundle, which replaces the ID of its transfer.
 #[tactic(auto, using(crate::proofs::SameRules::same_rules))]
 pub fn check_of_unpack(bytes: &[u8])
     ensures { (peer : PeerLimits) → ((unpack_tool all).whole bytes.now).status ≡ 0

@@ -20,7 +20,8 @@ wanted_by cutter = wanted_size cutter.begun cutter.segment cutter.hold (length c
 abbrev pub held_size : Cutter → ℕ
 held_size cutter = length cutter.held.bytes
 
--- the number of bytes kept: the bytes of the latest chunk that was cut, and the bytes not cut yet
+-- the number of bytes kept: the chunk of the latest cut, until the next push or cut, and the bytes
+-- not cut yet
 abbrev pub kept_size : Cutter → ℕ
 kept_size cutter = length cutter.held.given + length cutter.held.bytes
 

@@ -190,7 +190,7 @@ impl Cutter {
         Some(cut)
     }
 
-    /// Whether the next `size` bytes are exactly the next chunk. No byte may be left uncut.
+    /// Whether `size` bytes are exactly the next chunk, if the cutter holds nothing.
     ///
     /// `last` is whether the bundle ends with them.
     #[inline(always)]

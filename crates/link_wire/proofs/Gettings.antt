@@ -9,7 +9,7 @@ use Rattle.link_wire.specs.{Part.{Part, ◌>>=◌, bytes_at, number_at}, Message
 use Rattle.link_wire.proofs.Skips.{skipped_at-there, skipped_at-add}
 use Rattle.link_io.specs.Source.{at_hand, IsLive}
 use Rattle.link_io.proofs.Sources.{Takes-none, Takes-then, TakesThenStops-then}
-use Rattle.link_wire.specs.Getting.{AreNeeded, IsPart, IsFaultShownByLastByte, ReadsPart, with_value}
+use Rattle.link_wire.specs.Getting.{AreNeeded, IsPart, IsFaultOfNeededBytes, ReadsPart, with_value}
 use Rattle.link_wire.specs.declared.fault.{WireFault.WireFault, WireFault.TheVariants.Truncated}
 use Rattle.link_wire.specs.declared.halt.Halt.{Halt}
 use Rattle.link_wire.specs.declared.halt.Halt.TheVariants as halt
@@ -23,9 +23,9 @@ module _ {A B : Type 0} (part : List ℕ → Part A) (next : A × List ℕ → P
   needs_exit bytes needs count fewer = ap (λ r. r >>= next) (needs count fewer)
 
   -- bytes that show a fault of a part also show it if more would be read after the part
-  pub IsFaultShownByLastByte-exit : (bytes : List ℕ) (fault : WireFault) → IsFaultShownByLastByte part bytes fault
-      → IsFaultShownByLastByte (λ bytes. part bytes >>= next) bytes fault
-  IsFaultShownByLastByte-exit bytes fault is = record {
+  pub IsFaultOfNeededBytes-exit : (bytes : List ℕ) (fault : WireFault) → IsFaultOfNeededBytes part bytes fault
+      → IsFaultOfNeededBytes (λ bytes. part bytes >>= next) bytes fault
+  IsFaultOfNeededBytes-exit bytes fault is = record {
     is_fault = λ more may. ap (λ r. r >>= next) (is.is_fault more may);
     needs = needs_exit bytes is.needs;
   }
@@ -56,9 +56,9 @@ module _ {A B : Type 0} (part : List ℕ → Part A) (next : A × List ℕ → P
       needs = needs_then more.needs;
     }
 
-    pub IsFaultShownByLastByte-then : (fault : WireFault) → IsFaultShownByLastByte (λ bytes. next (value, bytes)) second fault
-        → IsFaultShownByLastByte (λ bytes. part bytes >>= next) (first ++ second) fault
-    IsFaultShownByLastByte-then fault more = record {
+    pub IsFaultOfNeededBytes-then : (fault : WireFault) → IsFaultOfNeededBytes (λ bytes. next (value, bytes)) second fault
+        → IsFaultOfNeededBytes (λ bytes. part bytes >>= next) (first ++ second) fault
+    IsFaultOfNeededBytes-then fault more = record {
       is_fault = λ rest may. part_then_more rest ∙ more.is_fault rest may;
       needs = needs_then more.needs;
     }
@@ -78,7 +78,7 @@ module _ {R A B : Type 0} {look : R → Input} {part : List ℕ → Part A}
     by = record {
       given = met.by.given;
       takes = met.by.takes;
-      is = IsFaultShownByLastByte-exit part next met.by.given fault met.by.is;
+      is = IsFaultOfNeededBytes-exit part next met.by.given fault met.by.is;
       over = met.by.over;
     };
     here = λ enough. met.here (λ cut. enough (ap (λ r. r >>= next) cut));
@@ -114,7 +114,7 @@ module _ {R A B : Type 0} {look : R → Input} {part : List ℕ → Part A}
     by = record {
       given = got.by.given ++ more.by.given;
       takes = Takes-then look old mid new got.by.given more.by.given got.by.takes more.by.takes;
-      is = IsFaultShownByLastByte-then part next value got.by.given more.by.given got.by.is fault more.by.is;
+      is = IsFaultOfNeededBytes-then part next value got.by.given more.by.given got.by.is fault more.by.is;
       over = more.by.over;
     };
     here = λ enough.

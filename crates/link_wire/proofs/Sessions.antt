@@ -7,11 +7,11 @@ use Rattle.link_wire.specs.Part.{Part, number_at}
 use Rattle.link_wire.specs.Message.{contact_at, message_at, fields_at, data_length}
 use Rattle.link_io.specs.Source.{window_of, at_hand, reach, GivesAtHand, is_fresh, IsSourceAt, IsLive, IsOver, Takes, Readies}
 use Rattle.link_wire.specs.Limits.{window_size}
-use Rattle.link_wire.specs.Getting.{IsEnoughFor, AreNeeded, IsPart, IsFaultShownByLastByte, GivenPart, ReadsPart, GivenKind}
+use Rattle.link_wire.specs.Getting.{IsEnoughFor, AreNeeded, IsPart, IsFaultOfNeededBytes, GivenPart, ReadsPart, GivenKind}
 use Rattle.link_wire.specs.Stream.{Entry, End, Clean, Cut, Fault, Stream, ended, stream_at, Reading, reading_of}
 use Rattle.link_wire.specs.Session.{IsEnough, HasEnoughForNext, joined, data_after, rest_after, IsSizeOfDataLeft, IsEndBeforeOrInHead, AreSameUpToEnd, AreNeededToDecide, is_unopened, reads_next, may_open, may_read, left_of, HasStopped, IsSessionAt, GivenContact, AfterOpen, GivenHead, AfterNext, PassedBytes, LoadedData, AfterLoad, AfterData}
 use Rattle.link_io.proofs.Sources.{fresh_at, fresh_live, IsSourceAt-then, Takes-then, Readies-takes, Readies-over, TakesThenStops-then}
-use Rattle.link_wire.proofs.{FieldReads.bytes_at-short, Gettings.{after, IsFaultShownByLastByte-then, cut_then}, Plains.IsPart-byte}
+use Rattle.link_wire.proofs.{FieldReads.bytes_at-short, Gettings.{after, IsFaultOfNeededBytes-then, cut_then}, Plains.IsPart-byte}
 use Rattle.link_wire.proofs.{Shrinks.shrinks_message, Steady.{steady_contact, steady_message, cut_before}}
 use Rattle.link_wire.proofs.Within.{Steady, within_contact, within_message, part_size, needed_size}
 use Rattle.link_wire.proofs.Streams.{stream_at-head, stream_at-fault}
@@ -330,7 +330,7 @@ module _ {R : Type 0} {look : R → Input} where
       unfolding message_at
       next_refused new (halt.Wire fault) met stopped =
           let given = met.by.given in
-          let is : IsFaultShownByLastByte message_at (kind ∷ given) fault = IsFaultShownByLastByte-then (number_at 1) (λ v. fields_at v.0 v.1) kind (kind ∷ []) given (IsPart-byte kind) fault met.by.is in
+          let is : IsFaultOfNeededBytes message_at (kind ∷ given) fault = IsFaultOfNeededBytes-then (number_at 1) (λ v. fields_at v.0 v.1) kind (kind ∷ []) given (IsPart-byte kind) fault met.by.is in
           record {
             given = kind ∷ given;
             takes = Takes-then look old.source mid new.source (kind ∷ []) given first.takes met.by.takes;

@@ -30,9 +30,9 @@ module _ {A : Type 0} where
     pub is_part : (more : List ℕ) → part (bytes ++ more) ≡ Ok (value, more)
     pub needs : AreNeeded part bytes
 
-  -- These bytes show the fault, whatever may follow them (`IfTruncatedNothingFollows`). Their last
-  -- byte is the first that shows it.
-  pub record IsFaultShownByLastByte (part : List ℕ → Part A) (bytes : List ℕ) (fault : WireFault)
+  -- These bytes show the fault, whatever may follow them (`IfTruncatedNothingFollows`). In a proper
+  -- prefix of them, a field is missing. So no proper prefix shows a fault other than `Truncated`.
+  pub record IsFaultOfNeededBytes (part : List ℕ → Part A) (bytes : List ℕ) (fault : WireFault)
       : Type 0 where
     pub is_fault : (more : List ℕ) → IfTruncatedNothingFollows fault more
         → part (bytes ++ more) ≡ Err fault
@@ -53,7 +53,7 @@ module _ {R A : Type 0} where
       (fault : WireFault) : Type 0 where
     pub given : List ℕ
     pub takes : Takes look old new given
-    pub is : IsFaultShownByLastByte part given fault
+    pub is : IsFaultOfNeededBytes part given fault
     pub over : fault ≡ Truncated → IsOver look new
 
   -- the source stopped before the part was whole

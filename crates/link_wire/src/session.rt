@@ -118,8 +118,8 @@ impl<R: InDevice> Session<R> {
         }
         let mut front = [0; FRONT];
         let count = self.source.peek(&mut front);
-        // By `IsSessionAt`, the window is never full here. The clause `few` does not assume that
-        // relation, so the window is tested.
+        // The window is never full here. Before `open` it is empty (`may_open`), and later
+        // `IsSessionAt` says so. The clause `few` assumes neither, so the window is tested.
         if let Phase::Unopened = self.phase {
             return !has_contact(&front[..count]) && self.source.window().len() < WINDOW;
         }
@@ -223,8 +223,9 @@ impl<R: InDevice> Session<R> {
     /// and its frequent head (see [`Session::next_here`]) lies whole in the reader's own buffer.
     ///
     /// The call does what [`Session::next`] does for such a message, and does not read from the
-    /// reader. In any other case, it returns `None` and gives nothing. [`Session::next_fields`]
-    /// would first fill the window, and so copy data that the caller can take in place.
+    /// reader. In any other case, and after a stop, it returns `None` and gives nothing.
+    /// [`Session::next_fields`] would first fill the window, and so copy data that the caller can
+    /// take in place.
     #[tactic(auto, using(link_io::proofs::Sources::front_ended))]
     #[cold]
     #[inline(never)]

@@ -25,8 +25,8 @@ fed_block seen piece = if has_room seen piece then taken (goes_in_block seen) se
 abbrev pub added : (seen run : List ℕ) → List Block
 added seen run = drop (length (blocks_in seen)) (blocks_in (seen ++ run))
 
--- The block that ends where the taken bytes (`fed_block`) of the piece end. If none ends there, it
--- is `no_block`.
+-- The block that ends with the last of the taken bytes (`fed_block`). If no byte is taken, or no
+-- block ends there, it is `no_block`.
 abbrev pub added_block : (seen piece : List ℕ) → BlockNumbers
 added_block seen piece = first_shown (added seen (fed_block seen piece))
 

@@ -131,7 +131,7 @@ pub fn next_block_at(
 pub fn check_field_at(kind: CheckKind, check: Check, bytes: &[u8]) -> Result<usize, PartFault>
     ensures read { (before : List ℕ) → IsCheckAt kind check before
         → passed_of result ≡ field_from kind before bytes.now }
-    // The result is the same for any check value, unless it is a fault that lasts.
+    // `any_field` has the same offset, or the same fault if that does not last.
     ensures size { MatchResult result (λ next. any_field kind bytes.now ≡ Ok (true, next))
         (λ stop. lasts stop.fault ≡ false
         → any_field kind bytes.now ≡ Err (stopped stop.fault stop.offset)) }
