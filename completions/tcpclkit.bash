@@ -15,7 +15,7 @@ _tcpclkit() {
     list) ;;
     unpack) values='--transfer' flags+=' --payload --keep-going' ;;
     blocks) values='--transfer' flags+=' --keep-going --bundles' ;;
-    check) values='--peer-segment --peer-transfer' flags+=' --must --bundles' ;;
+    check) values='--own --peer-segment --peer-transfer' flags+=' --must --bundles' ;;
     pack)
       values='--node --keepalive --segment-mru --transfer-mru --peer-segment --peer-transfer --announce'
       flags+=' --end'

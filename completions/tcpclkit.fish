@@ -27,7 +27,7 @@ complete -c tcpclkit -n __tcpclkit_begins -s V -l version -d 'Print version'
 complete -c tcpclkit -n __tcpclkit_begins -a list -d 'Writes a line for the contact header and each message of a recording'
 complete -c tcpclkit -n __tcpclkit_begins -a unpack -d "Writes the data of a recording's transfers"
 complete -c tcpclkit -n __tcpclkit_begins -a blocks -d 'Writes a line for each block of the bundles in a recording'
-complete -c tcpclkit -n __tcpclkit_begins -a check -d 'Writes a line for each judged rule of the RFCs that the sender of a recording breaks'
+complete -c tcpclkit -n __tcpclkit_begins -a check -d 'Writes a line for each judged rule of the RFCs that a recording breaks'
 complete -c tcpclkit -n __tcpclkit_begins -a pack -d 'Writes bundles as the stream of a sender'
 
 complete -c tcpclkit -n __tcpclkit_begins -a help -d 'Print this message or the help of the given subcommand'
@@ -44,6 +44,7 @@ complete -c tcpclkit -n '__tcpclkit_takes blocks keep-going' -l keep-going -d 'G
 complete -c tcpclkit -n '__tcpclkit_takes blocks bundles' -l bundles -d 'Read bundles, one after another, in place of a recording'
 
 complete -c tcpclkit -n '__tcpclkit_takes check must' -l must -d 'Leave out the rules of level should'
+complete -c tcpclkit -n '__tcpclkit_takes check own VALUE' -x -l own -d 'The node whose bundles and security blocks are judged'
 complete -c tcpclkit -n '__tcpclkit_takes check peer-segment VALUE' -x -l peer-segment -d 'The longest segment that the peer takes'
 complete -c tcpclkit -n '__tcpclkit_takes check peer-transfer VALUE' -x -l peer-transfer -d 'The longest transfer that the peer takes'
 complete -c tcpclkit -n '__tcpclkit_takes check bundles' -l bundles -d 'Read bundles, one after another, in place of a recording'

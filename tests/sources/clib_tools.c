@@ -172,7 +172,8 @@ static void shows_blocks(void) {
 
 /* The rules that the bundle breaks, in a transfer whose START is at 38, and in an input. */
 #define RULE_LINES "38 must primary-check transfer=0\n38 must age transfer=0 blocks=0\n"
-#define BUNDLE_RULE_LINES "0 must primary-check bundle=0\n0 must age bundle=0 blocks=0\n"
+#define BUNDLE_MUST_LINE "0 must age bundle=0 blocks=0\n"
+#define BUNDLE_RULE_LINES "0 should primary-check bundle=0\n" BUNDLE_MUST_LINE
 
 static void judges_rules(void) {
   struct tcpclkit_check_options usual, options;
@@ -244,7 +245,7 @@ static void judges_rules_of_bundles(void) {
   options.must = 1;
   CHECK(tcpclkit_check(bundle, BUNDLE_LENGTH, &options, output, sizeof output, report,
                        sizeof report, &run) == TCPCLKIT_OK);
-  CHECK(run.output_length == strlen(BUNDLE_RULE_LINES) && begins(output, BUNDLE_RULE_LINES));
+  CHECK(run.output_length == strlen(BUNDLE_MUST_LINE) && begins(output, BUNDLE_MUST_LINE));
   CHECK(tcpclkit_check(bundle, 0, &options, output, sizeof output, report, sizeof report,
                        &run) == TCPCLKIT_OK);
   CHECK(run.exit_status == 0 && run.output_length == 0 && run.report_length == 0);

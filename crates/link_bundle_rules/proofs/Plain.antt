@@ -7,13 +7,15 @@ use Rattle.link_bundle_rules.specs.Endpoints.{bad_name_of, dtn_name, source_node
 use Rattle.link_bundle_rules.specs.Extensions.{age, previous_node, if_no_node_id, previous_node_id, if_expired, expired, hops_of, first_hops, has_bad_limit, hop_count, if_exceeded, hops, if_reserved, block_type, malformed_rule, if_malformed_extension, block_data, unread_rule, if_unread, data_not_read}
 use Rattle.link_bundle_rules.specs.Flags.{bundle_flags, anonymous, record_reports, if_reporting, block_reports, if_other_block_flags, block_flags}
 use Rattle.link_bundle_rules.specs.Fragments.{fragment, whole_fragment}
-use Rattle.link_bundle_rules.specs.Heads.{data_head, long_head}
+use Rattle.link_bundle_rules.specs.Heads.{data_head, sure_security_head, long_head}
 use Rattle.link_bundle_rules.specs.Hidden.{is_hidden_block, unless_hidden, first_readable}
 use Rattle.link_bundle_rules.specs.Kept.{is_plain_data, is_plain_block, is_plain_primary, has_plain_counts, is_plain}
 use Rattle.link_bundle_rules.specs.BundleFacts as block
-use Rattle.link_bundle_rules.specs.BundleFacts.{BundleFacts, is_of_type, is_extension, is_security_block, count_of_type, find_map}
+use Rattle.link_bundle_rules.specs.BundleFacts.{BundleFacts, is_of_type, has_readable_type, has_unknown_block, is_security_block, count_of_type, find_map}
 use Rattle.link_bundle_rules.specs.Records.{administrative_record, record_type, report_of, report_times, report_empty, report_reason, report_source}
 use Rattle.link_bundle_rules.specs.Security.{primary_check, confidential_primary, security_flags, security_context, confidential_flags, confidential_context}
+use Rattle.link_bundle_rules.specs.Sources.{if_judged}
+use Rattle.link_bundle_rules.specs.declared.source.{KnownSource.KnownSource, KnownSource.TheVariants.{Own, Any, Other}}
 use Rattle.link_bundle_rules.specs.Targets.{if_counted, first_counted, first_target, if_bad_targets, missing_target, security_targets, security_twice, integrity_target, confidential_target, shared_target}
 use Rattle.link_bundle_rules.specs.declared.block.{BlockFacts.BlockFacts, DataFacts.DataFacts}
 use Rattle.link_bundle_rules.specs.declared.{extensions.Hops.Hops, rule.BundleRule.BundleRule, security.SecurityFacts.SecurityFacts}
@@ -22,7 +24,7 @@ use Rattle.link_bundle_rules.specs.declared.{extensions.Hops.Hops, rule.BundleRu
 
 record KeepsPrimary (bundle : BundleFacts) : Type 0 where
   flags : bundle_flags bundle ≡ None
-  check : primary_check bundle ≡ None
+  check : (source : KnownSource) → primary_check source bundle ≡ None
   anonymous : anonymous bundle ≡ None
   reports : record_reports bundle ≡ None
   name : bundle.primary.bad_name ≡ None
@@ -35,7 +37,7 @@ primary_keeps : (bundle : BundleFacts) → is_plain_primary bundle.primary ≡ t
 unfolding bundle_flags primary_check anonymous record_reports fragment whole_fragment source_node
 primary_keeps bundle plain = record {
   flags = grind (arith, nat_tests);
-  check = grind (arith, nat_tests);
+  check = λ source. grind (arith, nat_tests);
   anonymous = grind (arith, nat_tests);
   reports = grind (arith, nat_tests);
   name = grind (arith, nat_tests);
@@ -135,7 +137,7 @@ pub record KeepsBlocks (bundle : BundleFacts) : Type 0 where
   pub limit : has_bad_limit (first_hops bundle) ≡ false
   pub hops : hops bundle ≡ None
   pub malformed : block_data bundle ≡ None
-  pub unread : data_not_read bundle ≡ None
+  pub unread : (source : KnownSource) → data_not_read source bundle ≡ None
   pub types : block_type bundle ≡ None
 
 pub blocks_keep : (bundle : BundleFacts) → ArePlain bundle → KeepsBlocks bundle
@@ -155,7 +157,7 @@ blocks_keep bundle all =
       malformed = none_found lifetime (if_malformed_extension bundle)
           (λ read plain. none_if _ _
           (not_malformed lifetime read.number read.data (data_plain lifetime read plain))) blocks all;
-      unread = none_found lifetime (if_unread bundle)
+      unread = λ source. none_found lifetime (if_unread source bundle)
           (λ read plain. none_if _ _
           (is_read lifetime read.number read.data (data_plain lifetime read plain))) blocks all;
       types = none_found lifetime if_reserved (λ read plain. grind (arith, nat_tests)) blocks all;
@@ -164,9 +166,9 @@ blocks_keep bundle all =
 -- ---- rules of the data of blocks
 
 record KeepsData (bundle : BundleFacts) : Type 0 where
-  names : find_map (bad_name_of bundle) bundle.blocks ≡ None
+  names : (source : KnownSource) → find_map (bad_name_of source bundle) bundle.blocks ≡ None
   security_heads : data_head is_security_block bundle ≡ None
-  extension_heads : data_head is_extension bundle ≡ None
+  data_heads : data_head has_readable_type bundle ≡ None
   node : previous_node_id bundle ≡ None
   age : expired bundle ≡ None
   record_data : administrative_record bundle ≡ None
@@ -180,10 +182,10 @@ data_keeps bundle all =
     let lifetime = bundle.primary.lifetime in
     let payload = readable_keeps bundle block.payload all in
     record {
-      names = none_found lifetime (bad_name_of bundle) (λ read plain. grind (arith, nat_tests))
-          blocks all;
+      names = λ source. none_found lifetime (bad_name_of source bundle)
+          (λ read plain. grind (arith, nat_tests)) blocks all;
       security_heads = none_found lifetime _ (λ read plain. grind (arith, nat_tests)) blocks all;
-      extension_heads = none_found lifetime _ (λ read plain. grind (arith, nat_tests)) blocks all;
+      data_heads = none_found lifetime _ (λ read plain. grind (arith, nat_tests)) blocks all;
       node = none_first lifetime if_no_node_id (λ read plain. grind (arith, nat_tests)) _
           (readable_keeps bundle block.previous_node all);
       age = none_first lifetime (if_expired lifetime) (λ read plain. grind (arith, nat_tests)) _
@@ -277,24 +279,42 @@ security_keeps bundle empty =
 
 -- ---- the bundle
 
-no_long_head : (bundle : BundleFacts) → bundle.long_head ≡ None → KeepsData bundle
-    → long_head bundle ≡ None
-unfolding long_head
-no_long_head bundle none kept = rw (none, kept.security_heads, kept.extension_heads) refl
+-- what is not there is not there if it is judged
+none_judged : {A : Type 0} (source : KnownSource) (item : Option A) → item ≡ None
+    → if_judged source item ≡ None
+unfolding if_judged
+none_judged Own item none = none
+none_judged Any item none = none
+none_judged Other item none = refl
 
-no_bad_name : (bundle : BundleFacts) → bundle.primary.bad_name ≡ None → KeepsData bundle
-    → dtn_name bundle ≡ None
+none_sure : (bundle : BundleFacts) → KeepsData bundle → sure_security_head bundle ≡ None
+none_sure bundle kept = elim (has_unknown_block bundle) as (λ unknown.
+    cond unknown None (data_head is_security_block bundle) ≡ None) [
+      | true ↦ refl
+      | false ↦ kept.security_heads
+    ]
+
+no_long_head : (bundle : BundleFacts) (source : KnownSource) → bundle.long_head ≡ None
+    → KeepsData bundle
+    → long_head (record bundle { long_head = if_judged source bundle.long_head }) ≡ None
+unfolding long_head
+no_long_head bundle source none kept =
+    rw (none_judged source bundle.long_head none, none_sure bundle kept, kept.data_heads) refl
+
+no_bad_name : (bundle : BundleFacts) (source : KnownSource) → bundle.primary.bad_name ≡ None
+    → KeepsData bundle → dtn_name source bundle ≡ None
 unfolding dtn_name
-no_bad_name bundle none kept = rw (none, kept.names) refl
+no_bad_name bundle source none kept =
+    rw (none_judged source bundle.primary.bad_name none, kept.names source) refl
 
 none_left : {A : Type 0} (elements : List A) → (length elements == 0) ≡ true → elements ≡ []
 none_left [] none = refl
 none_left (element ∷ more) none = grind (arith, nat_tests)
 
-pub none_broken : (bundle : BundleFacts) → bundle.long_head ≡ None → is_plain bundle ≡ true
-    → broken_bundle_rules bundle ≡ []
+pub none_broken : (bundle : BundleFacts) (source : KnownSource) → bundle.long_head ≡ None
+    → is_plain bundle ≡ true → broken_bundle_rules source bundle ≡ []
 unfolding broken_bundle_rules
-none_broken bundle head plain =
+none_broken bundle source head plain =
     let both = and_parts (is_plain_primary bundle.primary) _ plain in
     let more = and_parts (list_all (is_plain_block bundle.primary.lifetime) bundle.blocks) _ both.1 in
     let last = and_parts (has_plain_counts bundle) (length bundle.security == 0) more.1 in
@@ -305,33 +325,33 @@ none_broken bundle head plain =
     let counts = counts_keep bundle last.0 in
     let security = security_keeps bundle (none_left bundle.security last.1) in
     rw (
-      no_long_head bundle head said,
-      primary.flags,
-      primary.check,
-      primary.anonymous,
-      primary.reports,
-      blocks.reports,
-      blocks.flags,
-      no_bad_name bundle primary.name said,
-      primary.fragment,
-      primary.whole,
-      counts.ages,
+      no_long_head bundle source head said,
+      none_judged source _ primary.flags,
+      none_judged source _ (primary.check source),
+      none_judged source _ primary.anonymous,
+      none_judged source _ primary.reports,
+      none_judged source _ blocks.reports,
+      none_judged source _ blocks.flags,
+      no_bad_name bundle source primary.name said,
+      none_judged source _ primary.fragment,
+      none_judged source _ primary.whole,
+      none_judged source _ counts.ages,
       counts.previous_nodes,
-      counts.hop_counts blocks.limit,
+      none_judged source _ (counts.hop_counts blocks.limit),
       security.primary,
       blocks.hops,
       blocks.malformed,
-      blocks.unread,
-      said.record_data,
-      primary.source,
+      blocks.unread source,
+      none_judged source _ said.record_data,
+      none_judged source _ primary.source,
       said.node,
       said.age,
-      blocks.types,
-      said.record_types,
-      report.times,
-      report.empty,
-      report.reason,
-      report.source,
+      none_judged source _ blocks.types,
+      none_judged source _ said.record_types,
+      none_judged source _ report.times,
+      none_judged source _ report.empty,
+      none_judged source _ report.reason,
+      none_judged source _ report.source,
       security.targets,
       security.twice,
       security.flags,

@@ -1,6 +1,6 @@
 -- What the rules need of a good bundle (RFC 9171 section 4).
-use Rattle.std.specs.Prelude.{ℕ, ◌+◌, ◌||◌, ◌==◌, Bool, true, false, List, [], ◌∷◌, ◌++◌, take, count_by, is_some, Option, Some, None, option_map, Result, Ok, Err, if◌then◌else◌, nat_lt}
-use Rattle.std.specs.Option.{option_or}
+use Rattle.std.specs.Prelude.{ℕ, ◌+◌, ◌||◌, ◌==◌, not, Bool, true, false, List, [], ◌∷◌, ◌++◌, take, count_by, is_some, Option, Some, None, option_map, Result, Ok, Err, if◌then◌else◌, nat_lt}
+use Rattle.std.specs.{List.list_any, Option.option_or}
 use Rattle.link_cbor.specs.declared.check.CheckKind.{CheckKind}
 use Rattle.link_bundle_types.specs.declared.eid.Eid.{Eid}
 use Rattle.link_bundle_types.specs.declared.eid.Eid.TheVariants as eid
@@ -9,6 +9,7 @@ use Rattle.link_bundle_blocks.specs.declared.block.CanonicalBlock.{CanonicalBloc
 use Rattle.link_bundle_data.specs.BlockData.{BlockData, PreviousNode, BundleAge, HopCount, Security, StatusReport, OtherRecord}
 use Rattle.link_bundle_data.specs.declared.values.Report.{Report}
 use Rattle.link_bundle_data.specs.declared.values.DataFault.{DataFault}
+use Rattle.link_rules_shared.specs.Nodes.{is_node_of}
 use Rattle.link_bundle_rules.specs.Names.{has_bad_name, bad_name, is_group, node_level}
 use Rattle.link_bundle_rules.specs.declared.block.BlockFacts.{BlockFacts}
 use Rattle.link_bundle_rules.specs.declared.block.DataFacts.{DataFacts}
@@ -77,6 +78,19 @@ count_of_type type blocks = count_by (is_of_type type) blocks
 abbrev pub find_map : {A B : Type 0} → (A → Option B) → List A → Option B
 find_map f [] = None
 find_map f (element ∷ more) = option_or (f element) (find_map f more)
+
+-- whether this toolkit reads the data of a block: an extension block or a security block
+abbrev pub has_readable_type : BlockFacts → Bool
+has_readable_type block = is_extension block || is_security_block block
+
+-- whether the type of a block is known: it is the payload, or its data is read
+abbrev pub has_known_type : BlockFacts → Bool
+has_known_type block = is_of_type payload block || has_readable_type block
+
+-- Whether a block of an unknown type is in the bundle. It may be an Other Security Block, which may
+-- encrypt other blocks (RFC 9172 section 10).
+abbrev pub has_unknown_block : BundleFacts → Bool
+has_unknown_block bundle = list_any (λ block. not (has_known_type block)) bundle.blocks
 
 -- ---- the primary block
 
@@ -151,10 +165,21 @@ data_facts data_start None = facts.Nothing
 abbrev pub long_head_at : CanonicalBlock → (long_head : Option ℕ) → Option ℕ
 long_head_at block long_head = option_map (λ offset. block.data_start + offset) long_head
 
+-- whether a security block is judged, by its data: `own` is empty, or the block's source is known
+-- and is of the node `own`
+abbrev pub is_judged_security : (own : List ℕ) → Option (Result BlockData DataFault) → Bool
+is_judged_security [] found = true
+is_judged_security own (Some (Ok (Security block targets source))) = is_node_of own source
+is_judged_security own found = false
+
+-- whether the data of a block is judged; only that of a security block may not be
+abbrev pub is_judged_data : (own : List ℕ) → (type : ℕ) → Option (Result BlockData DataFault) → Bool
+is_judged_data own type found = not (is_security type) || is_judged_security own found
+
 -- what the rules need of a block; `found` and `long_head` are of its data
-abbrev pub block_facts : CanonicalBlock → Option (Result BlockData DataFault)
+abbrev pub read_facts : CanonicalBlock → Option (Result BlockData DataFault)
     → (long_head : Option ℕ) → BlockFacts
-block_facts block found long_head = record {
+read_facts block found long_head = record {
   number = block.number;
   block_type = block.block_type;
   flags = block.flags;
@@ -162,27 +187,42 @@ block_facts block found long_head = record {
   long_head = long_head_at block long_head;
 }
 
+-- what the rules need of a block whose data is not judged
+abbrev pub unjudged_facts : CanonicalBlock → BlockFacts
+unjudged_facts block = read_facts block None None
+
+-- what the rules need of a block, if only security blocks of the node `own` are judged
+abbrev pub block_facts : (own : List ℕ) → CanonicalBlock → Option (Result BlockData DataFault)
+    → (long_head : Option ℕ) → BlockFacts
+block_facts own block found long_head =
+    if is_judged_data own block.block_type found
+    then read_facts block found long_head
+    else unjudged_facts block
+
 -- ---- a security block
 
 -- What the rules need of a security block (RFC 9172 section 3.6). The first 64 targets are kept. If
 -- its data is malformed or not read, what it says is not known.
-abbrev pub security_facts : CanonicalBlock → Option (Result BlockData DataFault) → SecurityFacts
-security_facts read (Some (Ok (Security block targets source))) = record {
+abbrev pub security_facts : (is_judged : Bool) → CanonicalBlock
+    → Option (Result BlockData DataFault) → SecurityFacts
+security_facts judged read (Some (Ok (Security block targets source))) = record {
   number = read.number;
   block_type = read.block_type;
   flags = read.flags;
   is_malformed = false;
+  is_judged = judged;
   targets_primary = block.targets_primary;
   count = block.targets;
   targets = record { items = take 64 targets };
   context = block.context;
   context_flags = block.flags;
 }
-security_facts read _ = record {
+security_facts judged read _ = record {
   number = read.number;
   block_type = read.block_type;
   flags = read.flags;
   is_malformed = true;
+  is_judged = judged;
   targets_primary = false;
   count = 0;
   targets = record { items = [] };
@@ -191,9 +231,12 @@ security_facts read _ = record {
 }
 
 -- what the rules need of a security block, as a list; `[]` for any other block
-abbrev pub if_security : CanonicalBlock → Option (Result BlockData DataFault) → List SecurityFacts
-if_security block found =
-    if is_security block.block_type then security_facts block found ∷ [] else []
+abbrev pub if_security : (own : List ℕ) → CanonicalBlock → Option (Result BlockData DataFault)
+    → List SecurityFacts
+if_security own block found =
+    if is_security block.block_type
+    then security_facts (is_judged_security own found) block found ∷ []
+    else []
 
 -- ---- a bundle, block by block
 
@@ -207,13 +250,14 @@ begun primary check = record {
   payload_length = 0;
 }
 
--- A bundle with one more block at the end. `long_head` is the offset in the block's data of the
--- first head that is longer than its number needs. Heads that are not read do not count.
-abbrev pub with_block : BundleFacts → CanonicalBlock → Option (Result BlockData DataFault)
-    → (long_head : Option ℕ) → BundleFacts
-with_block bundle block found long_head = record bundle {
-  blocks = bundle.blocks ++ block_facts block found long_head ∷ [];
-  security = bundle.security ++ if_security block found;
+-- A bundle with one more block at the end. If `own` is not empty, it names the node whose security
+-- blocks are judged. `long_head` is the offset in the block's data of the first head that is longer
+-- than its number needs. Heads that are not read do not count.
+abbrev pub with_block : (own : List ℕ) → BundleFacts → CanonicalBlock
+    → Option (Result BlockData DataFault) → (long_head : Option ℕ) → BundleFacts
+with_block own bundle block found long_head = record bundle {
+  blocks = bundle.blocks ++ block_facts own block found long_head ∷ [];
+  security = bundle.security ++ if_security own block found;
 }
 
 -- the offset in the bundle of the fault in the data of a block, if there is one

@@ -4,8 +4,10 @@ use Rattle.std.specs.Option.{option_and_then}
 use Rattle.link_rules_shared.specs.declared.level.Level.TheVariants.{Must}
 use Rattle.link_bundle_rules.specs.Fragments.{level_in}
 use Rattle.link_bundle_rules.specs.Hidden.{is_hidden_block, first_readable}
+use Rattle.link_bundle_rules.specs.Sources.{is_judged}
+use Rattle.link_bundle_rules.specs.declared.source.KnownSource.{KnownSource}
 use Rattle.link_bundle_rules.specs.BundleFacts as block
-use Rattle.link_bundle_rules.specs.BundleFacts.{BundleFacts, is_of_type, is_extension, is_security_block, count_of_type, find_map}
+use Rattle.link_bundle_rules.specs.BundleFacts.{BundleFacts, is_of_type, has_readable_type, count_of_type, find_map}
 use Rattle.link_bundle_rules.specs.declared.block.BlockFacts.{BlockFacts}
 use Rattle.link_bundle_rules.specs.declared.block.DataFacts.{DataFacts}
 use Rattle.link_bundle_rules.specs.declared.block.DataFacts.TheVariants.{PreviousNode, BundleAge, HopCount, Malformed, NotRead}
@@ -126,11 +128,6 @@ block_type bundle = find_map if_reserved bundle.blocks
 
 -- ---- data that is malformed or not read, if it cannot be ciphertext
 
--- whether a block is an extension block or a security block; this toolkit reads the data of such
--- blocks
-abbrev pub has_readable_type : BlockFacts → Bool
-has_readable_type read = is_extension read || is_security_block read
-
 -- the rule that malformed data breaks; data that exceeds a limit of this toolkit does not break it
 abbrev pub malformed_rule : (number : ℕ) → DataFacts → Option BundleRule
 malformed_rule number (Malformed byte) = Some (rule.BlockData number byte)
@@ -155,11 +152,17 @@ abbrev pub unread_rule : (number : ℕ) → DataFacts → Option BundleRule
 unread_rule number (NotRead byte) = Some (rule.DataNotRead number byte)
 unread_rule number _ = None
 
+-- whether the data of a block is judged by its limits: that of an extension block or a security
+-- block, or an administrative record, which binds the source
+abbrev pub is_judged_by_limits : KnownSource → BlockFacts → Bool
+is_judged_by_limits source read =
+    has_readable_type read || (is_of_type block.payload read && is_judged source)
+
 -- the rule that a block breaks by data that exceeds a limit of this toolkit, if the data cannot be
--- ciphertext; the payload can break it too, as an administrative record
-abbrev pub if_unread : BundleFacts → BlockFacts → Option BundleRule
-if_unread bundle read =
-    if (has_readable_type read || is_of_type block.payload read)
+-- ciphertext
+abbrev pub if_unread : KnownSource → BundleFacts → BlockFacts → Option BundleRule
+if_unread source bundle read =
+    if is_judged_by_limits source read
     && not (is_hidden_block bundle read.block_type read.number)
     then unread_rule read.number read.data
     else None
@@ -167,5 +170,5 @@ if_unread bundle read =
 -- data-not-read: the data of extension and security blocks, and an administrative record, exceed no
 -- limit of this toolkit. RFC 9171 permits data that does (section 4.1). The first block with such
 -- data is reported.
-unfoldable pub data_not_read : BundleFacts → Option BundleRule
-data_not_read bundle = find_map (if_unread bundle) bundle.blocks
+unfoldable pub data_not_read : KnownSource → BundleFacts → Option BundleRule
+data_not_read source bundle = find_map (if_unread source bundle) bundle.blocks

@@ -3,7 +3,7 @@ use Rattle.std.specs.Prelude.{ℕ, Bool, min, Option, Some, None, option_map, if
 use Rattle.std.specs.Option.{option_and_then, option_or}
 use Rattle.link_rules_shared.specs.declared.level.{Level.Level, Level.TheVariants.{Must, Should}}
 use Rattle.link_bundle_rules.specs.Hidden.{unless_hidden}
-use Rattle.link_bundle_rules.specs.BundleFacts.{BundleFacts, is_extension, is_security_block, find_map}
+use Rattle.link_bundle_rules.specs.BundleFacts.{BundleFacts, has_readable_type, has_unknown_block, is_security_block, find_map}
 use Rattle.link_bundle_rules.specs.declared.block.BlockFacts.{BlockFacts}
 use Rattle.link_bundle_rules.specs.declared.rule.BundleRule.{BundleRule}
 use Rattle.link_bundle_rules.specs.declared.rule.BundleRule.TheVariants.{LongHead}
@@ -28,12 +28,18 @@ data_head test bundle =
 abbrev pub of_level : Level → Option ℕ → Option BundleRule
 of_level level byte = option_map (λ byte. LongHead byte level) byte
 
+-- the first long head in the data of security blocks, unless a block of an unknown type may have
+-- encrypted the data
+abbrev pub sure_security_head : BundleFacts → Option ℕ
+sure_security_head bundle =
+    if has_unknown_block bundle then None else data_head is_security_block bundle
+
 -- long-head: each head is the shortest for its number. This is a `must` outside the data of blocks
 -- (RFC 9171 section 4.1), and in the data of security blocks, as far as it is read (RFC 9172
--- section 3.6). It is a `should` in the data of previous node, bundle age and hop count blocks. The
--- head of the bundle's own array is not judged. The first longer head is reported, and a `must`
--- goes before a `should`.
+-- section 3.6). It is a `should` in the data of previous node, bundle age and hop count blocks, and
+-- in all data if a block of an unknown type may have encrypted it. The head of the bundle's own
+-- array is not judged. The first longer head is reported, and a `must` goes before a `should`.
 unfoldable pub long_head : BundleFacts → Option BundleRule
 long_head bundle =
-    option_or (of_level Must (least bundle.long_head (data_head is_security_block bundle)))
-    (of_level Should (data_head is_extension bundle))
+    option_or (of_level Must (least bundle.long_head (sure_security_head bundle)))
+    (of_level Should (data_head has_readable_type bundle))

@@ -1,5 +1,6 @@
 pub mod Names
 pub mod BundleFacts
+pub mod Sources
 pub mod Flags
 pub mod Hidden
 pub mod Fragments

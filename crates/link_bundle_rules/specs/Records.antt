@@ -1,6 +1,6 @@
 -- Rules of administrative records and status reports (RFC 9171 section 6.1). The record of a
 -- fragment is not read, and one that may be ciphertext is not judged.
-use Rattle.std.specs.Prelude.{ℕ, not, ◌&&◌, nat_lt, Option, Some, None, if◌then◌else◌}
+use Rattle.std.specs.Prelude.{not, ◌&&◌, ◌||◌, ◌==◌, Option, Some, None, if◌then◌else◌}
 use Rattle.std.specs.Option.{option_and_then}
 use Rattle.link_bundle_rules.specs.Hidden.{first_readable}
 use Rattle.link_bundle_rules.specs.BundleFacts.{BundleFacts, payload}
@@ -25,12 +25,15 @@ unfoldable pub administrative_record : BundleFacts → Option BundleRule
 administrative_record bundle =
     option_and_then (λ read. malformed_record read.data) (record_of bundle)
 
--- the rule that a record breaks if it is no status report
+-- the rule that a record breaks by type 0, which is reserved, or 2, which only version 6 of the
+-- protocol has
 abbrev pub other_record : DataFacts → Option BundleRule
-other_record (OtherRecord type) = Some (rule.RecordType type)
+other_record (OtherRecord type) =
+    if (type == 0) || (type == 2) then Some (rule.RecordType type) else None
 other_record _ = None
 
--- record-type: an administrative record has type 1 (section 6.1)
+-- record-type: an administrative record has no type that is reserved or only of version 6 (section
+-- 6.1). Other documents may define more types.
 unfoldable pub record_type : BundleFacts → Option BundleRule
 record_type bundle = option_and_then (λ read. other_record read.data) (record_of bundle)
 
@@ -64,14 +67,15 @@ if_empty report =
 unfoldable pub report_empty : BundleFacts → Option BundleRule
 report_empty bundle = option_and_then if_empty (report_of bundle)
 
--- the rule that a status report breaks by a reason above 16
-abbrev pub if_other_reason : ReportFacts → Option BundleRule
-if_other_reason report =
-    if nat_lt 16 report.reason then Some (rule.ReportReason report.reason) else None
+-- the rule that a status report breaks by the reason 255
+abbrev pub if_reserved_reason : ReportFacts → Option BundleRule
+if_reserved_reason report =
+    if report.reason == 255 then Some (rule.ReportReason report.reason) else None
 
--- report-reason: the reason is a code that is assigned, 0 to 16 (sections 6.1.1 and 9.5)
+-- report-reason: the reason is not 255, which is reserved (sections 6.1.1 and 9.5). Other documents
+-- may define more reasons.
 unfoldable pub report_reason : BundleFacts → Option BundleRule
-report_reason bundle = option_and_then if_other_reason (report_of bundle)
+report_reason bundle = option_and_then if_reserved_reason (report_of bundle)
 
 -- the rule that a status report breaks if it is about a bundle without a source
 abbrev pub if_no_source : ReportFacts → Option BundleRule

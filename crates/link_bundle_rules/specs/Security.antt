@@ -2,6 +2,7 @@
 use Rattle.std.specs.Prelude.{ℕ, Bool, not, ◌&&◌, ◌||◌, ◌==◌, Option, Some, None, if◌then◌else◌}
 use Rattle.std.specs.List.{list_any}
 use Rattle.link_rules_shared.specs.Flags.{has_other_flags}
+use Rattle.link_rules_shared.specs.declared.level.{Level.Level, Level.TheVariants.Should}
 use Rattle.link_bundle_rules.specs.Flags.{is_set}
 use Rattle.link_bundle_rules.specs.Fragments.{level_in}
 use Rattle.link_bundle_rules.specs.Hidden.{is_hidden}
@@ -10,6 +11,7 @@ use Rattle.link_bundle_rules.specs.Targets.{is_confidentiality, has_target, firs
 use Rattle.link_bundle_rules.specs.declared.rule.BundleRule.{BundleRule}
 use Rattle.link_bundle_rules.specs.declared.rule.BundleRule.TheVariants.{PrimaryCheck, ConfidentialPrimary, SecurityFlags, SecurityContext, ConfidentialFlags, ConfidentialContext}
 use Rattle.link_bundle_rules.specs.declared.security.SecurityFacts.{SecurityFacts}
+use Rattle.link_bundle_rules.specs.declared.source.{KnownSource.KnownSource, KnownSource.TheVariants.Own}
 
 -- Whether a block integrity block may have the primary block as a target. If its data is malformed
 -- or hidden, its targets are not known.
@@ -18,18 +20,26 @@ may_protect_primary bundle block =
     (block.block_type == block_integrity)
     && (block.targets_primary || (block.is_malformed || is_hidden bundle block.number))
 
+-- The level of primary-check. It is a `should` in a later fragment, and if another node than the
+-- source may have sent the bundle. Such a node may be a security acceptor: it removes the block
+-- integrity block (RFC 9172 section 5.1.2), and may not change the primary block (RFC 9171 section
+-- 4.3.1).
+abbrev pub check_level : KnownSource → BundleFacts → Level
+check_level Own bundle = level_in bundle
+check_level _ bundle = Should
+
 -- primary-check: the primary block has a check, or a block integrity block has it as a target (RFC
 -- 9171 section 4.3.1)
-unfoldable pub primary_check : BundleFacts → Option BundleRule
-primary_check bundle =
+unfoldable pub primary_check : KnownSource → BundleFacts → Option BundleRule
+primary_check source bundle =
     if bundle.primary.has_check || list_any (may_protect_primary bundle) bundle.security
     then None
-    else Some (PrimaryCheck (level_in bundle))
+    else Some (PrimaryCheck (check_level source bundle))
 
 -- the rule that a block confidentiality block breaks by having the primary block as a target
 abbrev pub if_confidential_primary : SecurityFacts → Option BundleRule
 if_confidential_primary block =
-    if (block.block_type == block_confidentiality) && block.targets_primary
+    if (block.block_type == block_confidentiality) && (block.targets_primary && block.is_judged)
     then Some (ConfidentialPrimary block.number)
     else None
 

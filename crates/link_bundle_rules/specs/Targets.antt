@@ -18,11 +18,12 @@ is_integrity block = block.block_type == block_integrity
 abbrev pub is_confidentiality : SecurityFacts → Bool
 is_confidentiality block = block.block_type == block_confidentiality
 
--- Whether a security block counts. It counts if its data is neither malformed nor unread, and
--- cannot be ciphertext.
+-- Whether a security block counts. It counts if it is judged, and its data is neither malformed nor
+-- unread, and cannot be ciphertext.
 abbrev pub counts : BundleFacts → SecurityFacts → Bool
 counts bundle block =
-    not block.is_malformed && not (is_hidden_block bundle block.block_type block.number)
+    block.is_judged
+    && (not block.is_malformed && not (is_hidden_block bundle block.block_type block.number))
 
 -- the result of `judge` for a block that counts; `None` for any other block
 abbrev pub if_counted : {A : Type 0} → BundleFacts → (SecurityFacts → Option A) → SecurityFacts

@@ -3,7 +3,7 @@
 ghost use Rattle.std.specs.Prelude.{◌≡◌, ◌+◌, ◌^◌, ◌<◌, IfSome, option_map};
 ghost use Rattle.std.specs.List.{find};
 ghost use Rattle.link_bundle_data.specs.DataView.{viewed_data, viewed_result};
-ghost use Rattle.link_bundle_rules.specs.BundleFacts.{block_facts, data_facts, said_facts, fault_facts, node_facts, report_facts, long_head_at, malformed_at, is_of_type, is_extension, is_security, is_security_block};
+ghost use Rattle.link_bundle_rules.specs.BundleFacts.{read_facts, unjudged_facts, has_known_type, has_readable_type, data_facts, said_facts, fault_facts, node_facts, report_facts, long_head_at, malformed_at, is_of_type, is_extension, is_security, is_security_block};
 ghost use Rattle.link_bundle_types.specs.EidView.{viewed_eid};
 
 use crate::names::{has_bad_name, node_level};
@@ -190,7 +190,7 @@ impl BlockFacts {
         ensures { IfSome (malformed_at read.now.block.now (option_map viewed_result read.now.found))
             (λ byte. byte < 2 ^ 64)
             → IfSome (long_head_at read.now.block.now read.now.long_head) (λ byte. byte < 2 ^ 64)
-            → result ≡ block_facts read.now.block.now (option_map viewed_result read.now.found)
+            → result ≡ read_facts read.now.block.now (option_map viewed_result read.now.found)
             read.now.long_head }
     {
         BlockFacts {
@@ -199,6 +199,19 @@ impl BlockFacts {
             flags: read.block.flags,
             data: data_facts(read),
             long_head: long_head_at(read),
+        }
+    }
+
+    /// What the rules need of a block whose data is not judged.
+    pub(crate) fn unjudged(block: &CanonicalBlock) -> BlockFacts
+        ensures { result ≡ unjudged_facts block.now }
+    {
+        BlockFacts {
+            number: block.number,
+            block_type: block.block_type,
+            flags: block.flags,
+            data: DataFacts::Nothing,
+            long_head: None,
         }
     }
 }
@@ -230,6 +243,20 @@ pub(crate) fn is_security_block(block: &BlockFacts) -> bool
     ensures { result ≡ is_security_block block.now }
 {
     is_security(block.block_type)
+}
+
+/// Whether this toolkit reads the data of a block: an extension block or a security block.
+pub(crate) fn has_readable_type(block: &BlockFacts) -> bool
+    ensures { result ≡ has_readable_type block.now }
+{
+    is_extension(block) || is_security_block(block)
+}
+
+/// Whether the type of a block is known: it is the payload, or its data is read.
+pub(crate) fn has_known_type(block: &BlockFacts) -> bool
+    ensures { result ≡ has_known_type block.now }
+{
+    is_of_type(PAYLOAD, block) || has_readable_type(block)
 }
 
 /// The first block of a type, if there is one.

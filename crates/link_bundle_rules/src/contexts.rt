@@ -3,6 +3,8 @@
 use crate::history::BundleHistory;
 use crate::rule::BundleRule;
 use crate::rules::first_found;
+use crate::source::KnownSource;
+use link_rules_shared::Level;
 
 impl BundleHistory {
     ghost use Rattle.std.specs.Prelude.{◌≡◌, ℕ, Option, None};
@@ -13,16 +15,18 @@ impl BundleHistory {
     /// The primary block has a check, or is a target of a block integrity block (RFC 9171 section
     /// 4.3.1). Returns the rule `primary-check` if it has no check, and cannot be such a target.
     #[tactic(auto, unfolding(crate::specs::Security::primary_check))]
-    pub(crate) fn primary_check(&self) -> Option<BundleRule>
+    pub(crate) fn primary_check(&self, source: KnownSource) -> Option<BundleRule>
         ensures { (long_head : Option ℕ) (payload_length : ℕ)
-            → result ≡ primary_check (bundle_of self.now long_head payload_length) }
+            → result ≡ primary_check source (bundle_of self.now long_head payload_length) }
     {
         if self.primary.has_check || self.may_have_protected_primary() {
             return None;
         }
-        Some(BundleRule::PrimaryCheck {
-            level: self.primary.level(),
-        })
+        let level = match source {
+            KnownSource::Own => self.primary.level(),
+            KnownSource::Any | KnownSource::Other => Level::Should,
+        };
+        Some(BundleRule::PrimaryCheck { level })
     }
 
     /// Whether a block integrity block has, or may have, the primary block as a target.

@@ -2,16 +2,17 @@
 
 ghost use Rattle.std.specs.Prelude.{◌≡◌, None};
 ghost use Rattle.link_bundle_rules.specs.History.{bundle_of};
-ghost use Rattle.link_bundle_rules.specs.Extensions.{hops_in, has_bad_limit, if_exceeded, if_no_node_id, if_expired, is_reserved, if_reserved, has_readable_type, if_malformed_extension, if_unread};
+ghost use Rattle.link_bundle_rules.specs.Extensions.{hops_in, has_bad_limit, if_exceeded, if_no_node_id, if_expired, is_reserved, if_reserved, is_judged_by_limits, if_malformed_extension, if_unread};
 ghost use Rattle.link_bundle_rules.specs.Hidden.{is_hidden_block};
 
 use crate::block::{
-    BUNDLE_AGE, BlockFacts, Counts, DataFacts, HOP_COUNT, PAYLOAD, PREVIOUS_NODE, is_extension,
-    is_of_type, is_security_block,
+    BUNDLE_AGE, BlockFacts, Counts, DataFacts, HOP_COUNT, PAYLOAD, PREVIOUS_NODE,
+    has_readable_type, is_of_type,
 };
 use crate::history::BundleHistory;
 use crate::rule::BundleRule;
 use crate::rules::first_found;
+use crate::source::KnownSource;
 use link_rules_shared::Level;
 
 /// A hop limit and a hop count (RFC 9171 section 4.4.3).
@@ -95,14 +96,6 @@ pub(crate) fn if_reserved(block: &BlockFacts) -> Option<BundleRule>
     })
 }
 
-/// Whether a block is an extension block or a security block. This toolkit reads the data of such
-/// blocks.
-fn has_readable_type(block: &BlockFacts) -> bool
-    ensures { result ≡ has_readable_type block.now }
-{
-    is_extension(block) || is_security_block(block)
-}
-
 /// Whether the data of a block may be ciphertext.
 fn is_hidden(history: &BundleHistory, block: &BlockFacts) -> bool
     ensures { result ≡ is_hidden_block (bundle_of history.now None 0) block.now.block_type
@@ -130,12 +123,24 @@ pub(crate) fn if_malformed_extension(
     }
 }
 
-/// The rule that a block breaks by data that exceeds a limit of this toolkit, unless the data may
-/// be ciphertext. The payload can break it too, as an administrative record.
-pub(crate) fn if_unread(history: &BundleHistory, block: &BlockFacts) -> Option<BundleRule>
-    ensures { result ≡ if_unread (bundle_of history.now None 0) block.now }
+/// Whether the data of a block is judged by its limits: that of an extension block or a security
+/// block, or an administrative record, which binds the source.
+fn is_judged_by_limits(source: KnownSource, block: &BlockFacts) -> bool
+    ensures { result ≡ is_judged_by_limits source block.now }
 {
-    let is_judged = has_readable_type(block) || is_of_type(PAYLOAD, block);
+    has_readable_type(block) || (is_of_type(PAYLOAD, block) && source.is_judged())
+}
+
+/// The rule that a block breaks by data that exceeds a limit of this toolkit, unless the data may
+/// be ciphertext.
+pub(crate) fn if_unread(
+    source: KnownSource,
+    history: &BundleHistory,
+    block: &BlockFacts,
+) -> Option<BundleRule>
+    ensures { result ≡ if_unread source (bundle_of history.now None 0) block.now }
+{
+    let is_judged = is_judged_by_limits(source, block);
     match block.data {
         DataFacts::NotRead(byte) if is_judged && !is_hidden(history, block) => {
             Some(BundleRule::DataNotRead {
@@ -283,14 +288,17 @@ impl BundleHistory {
     /// `plain` is whether all blocks are plain. If so, no block is looked at, since plain blocks do
     /// not break the rule.
     #[tactic(auto, unfolding(crate::specs::Extensions::data_not_read))]
-    pub(crate) fn data_not_read(&self, plain: bool) -> Option<BundleRule>
+    pub(crate) fn data_not_read(&self, source: KnownSource, plain: bool) -> Option<BundleRule>
         ensures { (long_head : Option ℕ) (payload_length : ℕ)
             → plain ≡ list_all (is_plain_block self.now.primary.lifetime) self.now.blocks.items
-            → result ≡ data_not_read (bundle_of self.now long_head payload_length) }
+            → result ≡ data_not_read source (bundle_of self.now long_head payload_length) }
     {
         if plain {
             return None;
         }
-        first_found(self.blocks.as_slice(), |block| if_unread(self, block))
+        first_found(
+            self.blocks.as_slice(),
+            |block| if_unread(source, self, block),
+        )
     }
 }

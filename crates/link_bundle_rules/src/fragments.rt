@@ -5,6 +5,7 @@ ghost use Rattle.std.specs.Prelude.{◌≡◌, ◌+◌, nat_lt};
 use crate::flags::{NO_FRAGMENTS, is_set};
 use crate::history::BundleHistory;
 use crate::rule::BundleRule;
+use link_rules_shared::Level;
 
 /// Whether a payload of `size` bytes that begins at `offset` ends after `total`.
 ///
@@ -20,7 +21,7 @@ fn ends_after(total: u64, offset: u64, size: u64) -> bool
 
 impl BundleHistory {
     ghost use Rattle.std.specs.Prelude.{◌≡◌, ℕ, Option, None};
-    ghost use Rattle.link_bundle_rules.specs.Fragments.{if_no_part, fragment, if_all, whole_fragment};
+    ghost use Rattle.link_bundle_rules.specs.Fragments.{is_no_fragment, ends_after_total, if_no_part, fragment, if_all, whole_fragment};
     ghost use Rattle.link_bundle_rules.specs.History.{bundle_of};
 
     /// The rule `fragment`, if a payload of `size` bytes breaks it.
@@ -35,22 +36,48 @@ impl BundleHistory {
         self.if_no_part(part, size)
     }
 
+    /// Whether the bundle must not be fragmented, or the payload of `size` bytes is empty.
+    fn is_no_fragment(&self, size: u64) -> bool
+        ensures { result ≡ is_no_fragment (bundle_of self.now None size) }
+    {
+        is_set(NO_FRAGMENTS, self.primary.flags) || size == 0
+    }
+
+    /// Whether the payload of `size` bytes ends after the total length, unless it may be
+    /// ciphertext.
+    ///
+    /// `part` is the offset of the fragment and the total length of the original payload.
+    fn ends_after_total(&self, part: (u64, u64), size: u64) -> bool
+        ensures { result ≡ ends_after_total (bundle_of self.now None size) part }
+    {
+        let (offset, total) = part;
+        !self.has_hidden_payload() && ends_after(total, offset, size)
+    }
+
     /// The rule that a fragment breaks if the bundle must not be fragmented, or if the payload of
-    /// `size` bytes is empty or ends after the total length. The end of a payload that may be
-    /// ciphertext is not judged.
+    /// `size` bytes is empty or ends after the total length. The end rests on data.
     ///
     /// `part` is the offset of the fragment and the total length of the original payload.
     fn if_no_part(&self, part: (u64, u64), size: u64) -> Option<BundleRule>
         ensures { result ≡ if_no_part (bundle_of self.now None size) part }
     {
         let (offset, total) = part;
-        let is_wrong = is_set(NO_FRAGMENTS, self.primary.flags)
-            || size == 0
-            || (!self.has_hidden_payload() && ends_after(total, offset, size));
-        is_wrong.then_some(BundleRule::Fragment {
+        if self.is_no_fragment(size) {
+            return Some(BundleRule::Fragment {
+                offset,
+                size,
+                total,
+                level: Level::Must,
+            });
+        }
+        if !self.ends_after_total(part, size) {
+            return None;
+        }
+        Some(BundleRule::Fragment {
             offset,
             size,
             total,
+            level: self.data_level(),
         })
     }
 

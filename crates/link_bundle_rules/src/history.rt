@@ -5,7 +5,7 @@ ghost use Rattle.arrayvec.specs.ArrayVec.{array_vec_len};
 
 use crate::block::{BlockFacts, ReadBlockView, is_security};
 use crate::primary::{NO_PRIMARY, PrimaryFacts};
-use crate::security::SecurityFacts;
+use crate::security::{SecurityFacts, is_judged_security};
 use arrayvec::ArrayVec;
 use link_bundle_blocks::PrimaryBlock;
 use link_bundle_types::BLOCK_LIMIT;
@@ -23,12 +23,12 @@ pub struct BundleHistory {
 }
 
 impl BundleHistory {
-    ghost use Rattle.std.specs.Prelude.{◌≡◌, ◌^◌, ◌<◌, [], ◌∷◌, ◌++◌, IfSome, None, option_map};
+    ghost use Rattle.std.specs.Prelude.{◌≡◌, ◌^◌, ◌<◌, true, IfSome, None, option_map};
     ghost use Rattle.arrayvec.specs.ArrayVec.{array_vec_len};
     ghost use Rattle.link_bundle_data.specs.DataView.{viewed_result};
     ghost use Rattle.link_bundle_blocks.specs.Blocks.{viewed_primary};
     ghost use Rattle.link_bundle_rules.specs.History.{bundle_of};
-    ghost use Rattle.link_bundle_rules.specs.BundleFacts.{begun, security_facts, with_block, malformed_at, long_head_at};
+    ghost use Rattle.link_bundle_rules.specs.BundleFacts.{begun, is_security, with_block, malformed_at, long_head_at};
 
     /// A history for one bundle after another. [`BundleHistory::begin`] begins each.
     pub fn new() -> BundleHistory {
@@ -52,42 +52,57 @@ impl BundleHistory {
 
     /// Takes the next canonical block. A block after 64 of them changes nothing.
     ///
+    /// If `own` is not empty, it is the node ID of the node whose security blocks are judged.
+    ///
     /// The premises of the contract are that fewer than 64 canonical blocks came before, and that
     /// offsets are below 2^64. Each good bundle meets them, since it has at most 64 such blocks.
     #[inline(always)]
-    pub fn take(&mut self, read: &ReadBlockView<'_>)
+    pub fn take(&mut self, own: &[u8], read: &ReadBlockView<'_>)
         ensures { array_vec_len self.old.blocks < 64
             → IfSome (malformed_at read.now.block.now (option_map viewed_result read.now.found))
             (λ byte. byte < 2 ^ 64)
             → IfSome (long_head_at read.now.block.now read.now.long_head) (λ byte. byte < 2 ^ 64)
-            → bundle_of self.new None 0 ≡ with_block (bundle_of self.old None 0)
+            → bundle_of self.new None 0 ≡ with_block own.now (bundle_of self.old None 0)
             read.now.block.now (option_map viewed_result read.now.found) read.now.long_head }
     {
         if self.blocks.is_full() {
             return;
         }
-        self.blocks.push(BlockFacts::of(read));
         if is_security(read.block.block_type) {
             // The call gets copies. Otherwise every block would be put into memory for it.
             let block = *read.block;
-            self.take_security(&ReadBlockView {
-                block: &block,
-                ..*read
-            });
+            self.take_security(
+                own,
+                &ReadBlockView {
+                    block: &block,
+                    ..*read
+                },
+            );
+        } else {
+            self.blocks.push(BlockFacts::of(read));
         }
     }
 
-    /// Takes the next security block.
+    /// Takes the next security block. The premises of the contract are as for
+    /// [`BundleHistory::take`].
     #[cold]
     #[inline(never)]
-    fn take_security(&mut self, read: &ReadBlockView<'_>)
-        requires room { array_vec_len self.old.security < 64 }
-        requires few { array_vec_len self.old.security < array_vec_len self.old.blocks }
-        ensures { bundle_of self.new None 0 ≡ record (bundle_of self.old None 0) {
-          security = self.old.security.items ++ security_facts read.now.block.now
-              (option_map viewed_result read.now.found) ∷ [];
-        } }
+    fn take_security(&mut self, own: &[u8], read: &ReadBlockView<'_>)
+        requires room { array_vec_len self.old.blocks < 64 }
+        requires security { is_security read.now.block.now.block_type ≡ true }
+        ensures { IfSome (malformed_at read.now.block.now (option_map viewed_result read.now.found))
+            (λ byte. byte < 2 ^ 64)
+            → IfSome (long_head_at read.now.block.now read.now.long_head) (λ byte. byte < 2 ^ 64)
+            → bundle_of self.new None 0 ≡ with_block own.now (bundle_of self.old None 0)
+            read.now.block.now (option_map viewed_result read.now.found) read.now.long_head }
     {
-        self.security.push(SecurityFacts::of(read));
+        let judged = is_judged_security(own, read);
+        let facts = if judged {
+            BlockFacts::of(read)
+        } else {
+            BlockFacts::unjudged(read.block)
+        };
+        self.blocks.push(facts);
+        self.security.push(SecurityFacts::of(judged, read));
     }
 }

@@ -61,9 +61,11 @@ impl BundleHistory {
     ghost use Rattle.std.specs.List.{list_all};
     ghost use Rattle.link_bundle_rules.specs.BundleRules.{broken_bundle_rules};
     ghost use Rattle.link_bundle_rules.specs.History.{bundle_of};
+    ghost use Rattle.link_bundle_rules.specs.declared.source.KnownSource.{KnownSource};
     ghost use Rattle.link_bundle_rules.specs.Kept.{is_plain_block, has_plain_counts, is_plain};
 
-    /// Whether the bundle is known to break no rule, if it is good and all its blocks came.
+    /// Whether the bundle is known to break no rule, whatever its source, if it is good and all its
+    /// blocks came.
     ///
     /// This takes less time than `rules`. If it returns false, the bundle may break rules or not.
     ///
@@ -73,8 +75,8 @@ impl BundleHistory {
     /// `first_long_head` is as for [`BundleHistory::rules`].
     #[inline(always)]
     pub fn keeps_rules(&self, first_long_head: Option<u64>) -> bool
-        ensures { (payload_length : ℕ) → result ≡ true
-            → broken_bundle_rules (bundle_of self.now first_long_head payload_length) ≡ [] }
+        ensures { (payload_length : ℕ) (source : KnownSource) → result ≡ true
+            → broken_bundle_rules source (bundle_of self.now first_long_head payload_length) ≡ [] }
     {
         first_long_head.is_none() && self.is_plain()
     }

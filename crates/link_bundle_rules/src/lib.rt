@@ -6,10 +6,11 @@
 //! let mut history = BundleHistory::new();
 //! history.begin(&primary);
 //! // for each canonical block, one after another
-//! history.take(&ReadBlockView { block: &block, found, long_head });
+//! history.take(own, &ReadBlockView { block: &block, found, long_head });
 //! // at the end, if the bundle is good
-//! for rule in history.rules(first_long_head, payload_length).as_slice() {
-//!     // .. rule.level() says how strictly the rule is meant
+//! let source = KnownSource::of(own, sender, &info.source);
+//! for rule in history.rules(first_long_head, payload_length, source).as_slice() {
+//!     // .. rule.level(history.doubt()) says how strictly the rule is meant
 //! }
 //! ```
 #![tactic(auto)]
@@ -30,10 +31,12 @@ mod records;
 mod rule;
 mod rules;
 mod security;
+mod source;
 mod targets;
 
 pub use block::ReadBlockView;
 pub use history::BundleHistory;
-pub use link_rules_shared::Level;
+pub use link_rules_shared::{Doubt, Level};
 pub use rule::{BundleRule, Endpoint};
 pub use rules::BrokenBundleRules;
+pub use source::KnownSource;

@@ -7,8 +7,8 @@ use crate::block::{BlockFacts, DataFacts, PAYLOAD, ReportFacts};
 use crate::history::BundleHistory;
 use crate::rule::BundleRule;
 
-/// The greatest reason code that is assigned (section 9.5).
-const LAST_REASON: u64 = 16;
+/// The reason code that is reserved (section 9.5).
+const RESERVED_REASON: u64 = 255;
 
 /// What a status report says. `None` for data of another kind.
 fn report_in(found: DataFacts) -> Option<ReportFacts>
@@ -53,7 +53,10 @@ impl BundleHistory {
             → result ≡ record_type (bundle_of self.now long_head payload_length) }
     {
         match self.record_of()?.data {
-            DataFacts::OtherRecord(record_type) => Some(BundleRule::RecordType { record_type }),
+            // Type 0 is reserved, and only version 6 of the protocol has type 2.
+            DataFacts::OtherRecord(record_type @ (0 | 2)) => {
+                Some(BundleRule::RecordType { record_type })
+            }
             _ => None,
         }
     }
@@ -94,7 +97,7 @@ impl BundleHistory {
             → result ≡ report_reason (bundle_of self.now long_head payload_length) }
     {
         let reason = self.report_of()?.reason;
-        (reason > LAST_REASON).then_some(BundleRule::ReportReason { reason })
+        (reason == RESERVED_REASON).then_some(BundleRule::ReportReason { reason })
     }
 
     /// The rule `report-source`, if the status report breaks it.

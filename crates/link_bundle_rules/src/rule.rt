@@ -1,7 +1,7 @@
 //! The rules that can be broken, with what a line says of each.
 
 use link_bundle_data::Integer;
-use link_rules_shared::{Level, NAME_MAX};
+use link_rules_shared::{Doubt, Level, NAME_MAX};
 
 /// An endpoint ID of a bundle.
 #[derive(Clone, Copy, Debug, PartialEq, Eq)]
@@ -15,6 +15,23 @@ pub enum Endpoint {
     SecuritySource(u64),
     /// The source of the bundle that a status report is about (RFC 9171 section 6.1.1).
     ReportSource,
+}
+
+impl Endpoint {
+    ghost use Rattle.std.specs.Prelude.{◌≡◌};
+    ghost use Rattle.link_bundle_rules.specs.BundleRules.{is_in_data};
+
+    /// Whether it lies in the data of a block.
+    fn is_in_data(&self) -> bool
+        ensures { result ≡ is_in_data self.now }
+    {
+        match self {
+            Endpoint::Destination | Endpoint::Source | Endpoint::ReportTo => false,
+            Endpoint::PreviousNode(_) | Endpoint::SecuritySource(_) | Endpoint::ReportSource => {
+                true
+            }
+        }
+    }
 }
 
 /// A rule that a bundle breaks (RFC 9171, where no other RFC is named).
@@ -64,6 +81,7 @@ pub enum BundleRule {
         offset: u64,
         size: u64,
         total: u64,
+        level: Level,
     },
     /// The payload of a fragment has the total length (sections 5.8 and 5.9).
     WholeFragment {
@@ -126,7 +144,7 @@ pub enum BundleRule {
         block: u64,
         block_type: u64,
     },
-    /// An administrative record is no status report (section 6.1).
+    /// The type of an administrative record is reserved (section 6.1).
     RecordType {
         record_type: u64,
     },
@@ -134,7 +152,7 @@ pub enum BundleRule {
     ReportTimes,
     /// A status report asserts nothing (sections 5.1 and 6.1.1).
     ReportEmpty,
-    /// The reason of a status report is not assigned (sections 6.1.1 and 9.5).
+    /// The reason of a status report is reserved (sections 6.1.1 and 9.5).
     ReportReason {
         reason: u64,
     },
@@ -193,7 +211,7 @@ pub enum BundleRule {
 
 impl BundleRule {
     ghost use Rattle.std.specs.Prelude.{◌≡◌, ◌≤◌, length};
-    ghost use Rattle.link_bundle_rules.specs.BundleRules.{bundle_level_of, bundle_name_of};
+    ghost use Rattle.link_bundle_rules.specs.BundleRules.{bundle_level_of, bundle_name_of, is_in_data, rests_on_data, sure_level_of};
 
     /// The name of the rule.
     #[tactic(auto, unfolding(crate::specs::BundleRules::bundle_name_of))]
@@ -241,14 +259,51 @@ impl BundleRule {
         }
     }
 
-    /// How strictly the rule is meant.
+    /// How strictly the rule is meant, if an unknown part may have changed this much of the bundle.
     #[tactic(auto, unfolding(crate::specs::BundleRules::bundle_level_of))]
-    pub fn level(&self) -> Level
-        ensures { result ≡ bundle_level_of self.now }
+    pub fn level(&self, doubt: Doubt) -> Level
+        ensures { result ≡ bundle_level_of doubt self.now }
+    {
+        match doubt {
+            Doubt::Nothing => self.sure_level(),
+            Doubt::BlockData if !self.rests_on_data() => self.sure_level(),
+            Doubt::BlockData | Doubt::WholeBundle => Level::Should,
+        }
+    }
+
+    /// Whether the rule is broken by the data of a block, and its level does not say so already.
+    fn rests_on_data(&self) -> bool
+        ensures { result ≡ rests_on_data self.now }
+    {
+        match self {
+            BundleRule::DtnName { of } => of.is_in_data(),
+            // Two blocks break the rule, whatever their data.
+            BundleRule::HopCount { blocks, .. } => *blocks <= 1,
+            BundleRule::ConfidentialPrimary { .. }
+            | BundleRule::BlockData { .. }
+            | BundleRule::Record { .. }
+            | BundleRule::PreviousNodeId { .. }
+            | BundleRule::ReportTimes
+            | BundleRule::SecurityTargets { .. }
+            | BundleRule::SecurityTwice { .. }
+            | BundleRule::SecurityFlags { .. }
+            | BundleRule::IntegrityTarget { .. }
+            | BundleRule::ConfidentialTarget { .. }
+            | BundleRule::ConfidentialFlags { .. }
+            | BundleRule::ConfidentialContext { .. } => true,
+            _ => false,
+        }
+    }
+
+    /// How strictly the rule is meant if nothing is in doubt.
+    #[tactic(auto, unfolding(crate::specs::BundleRules::sure_level_of))]
+    fn sure_level(&self) -> Level
+        ensures { result ≡ sure_level_of self.now }
     {
         match self {
             BundleRule::LongHead { level, .. }
             | BundleRule::PrimaryCheck { level }
+            | BundleRule::Fragment { level, .. }
             | BundleRule::Age { level, .. }
             | BundleRule::PreviousNodeId { level, .. }
             | BundleRule::SecurityTargets { level, .. } => *level,

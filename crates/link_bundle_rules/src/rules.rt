@@ -11,6 +11,7 @@ use crate::flags::{
 };
 use crate::history::BundleHistory;
 use crate::rule::BundleRule;
+use crate::source::KnownSource;
 use arrayvec::ArrayVec;
 use link_rules_shared::{broken_of, has_other_flags};
 
@@ -48,42 +49,48 @@ impl BundleHistory {
     /// The rules that the bundle breaks, in order, if it is good and all its blocks came.
     ///
     /// `first_long_head` is the offset of the first head that is longer than its number needs,
-    /// outside the data of blocks, and `payload_length` the number of bytes of the payload.
+    /// outside the data of blocks, and `payload_length` the number of bytes of the payload. If the
+    /// source is [`KnownSource::Other`], the rules that bind it are not judged.
     #[tactic(auto, unfolding(crate::specs::BundleRules::broken_bundle_rules))]
-    pub fn rules(&self, first_long_head: Option<u64>, payload_length: u64) -> BrokenBundleRules
-        ensures { result.items
-            ≡ broken_bundle_rules (bundle_of self.now first_long_head payload_length) }
+    pub fn rules(
+        &self,
+        first_long_head: Option<u64>,
+        payload_length: u64,
+        source: KnownSource,
+    ) -> BrokenBundleRules
+        ensures { result.items ≡ broken_bundle_rules source
+            (bundle_of self.now first_long_head payload_length) }
     {
         let plain = self.has_plain_blocks();
         let counts = Counts::of(self.blocks.as_slice());
         broken_of(&[
-            self.long_head(first_long_head),
-            self.bundle_flags(),
-            self.primary_check(),
-            self.anonymous(),
-            self.record_reports(),
-            self.block_reports(plain),
-            self.block_flags(plain),
-            self.dtn_name(),
-            self.fragment(payload_length),
-            self.whole_fragment(payload_length),
-            self.age(counts),
+            self.long_head(source.if_judged(first_long_head)),
+            source.if_judged(self.bundle_flags()),
+            source.if_judged(self.primary_check(source)),
+            source.if_judged(self.anonymous()),
+            source.if_judged(self.record_reports()),
+            source.if_judged(self.block_reports(plain)),
+            source.if_judged(self.block_flags(plain)),
+            self.dtn_name(source),
+            source.if_judged(self.fragment(payload_length)),
+            source.if_judged(self.whole_fragment(payload_length)),
+            source.if_judged(self.age(counts)),
             self.previous_node(counts),
-            self.hop_count(plain, counts),
+            source.if_judged(self.hop_count(plain, counts)),
             self.confidential_primary(),
             self.hops(plain),
             self.block_data(plain),
-            self.data_not_read(plain),
-            self.administrative_record(),
-            self.source_node(),
+            self.data_not_read(source, plain),
+            source.if_judged(self.administrative_record()),
+            source.if_judged(self.source_node()),
             self.previous_node_id(),
             self.expired(),
-            self.block_type(),
-            self.record_type(),
-            self.report_times(),
-            self.report_empty(),
-            self.report_reason(),
-            self.report_source(),
+            source.if_judged(self.block_type()),
+            source.if_judged(self.record_type()),
+            source.if_judged(self.report_times()),
+            source.if_judged(self.report_empty()),
+            source.if_judged(self.report_reason()),
+            source.if_judged(self.report_source()),
             self.security_targets(),
             self.security_twice(),
             self.security_flags(),

@@ -6,7 +6,7 @@ ghost use Rattle.std.specs.List.{list_any};
 ghost use Rattle.link_bundle_data.specs.DataView.{viewed_result};
 ghost use Rattle.link_bundle_rules.specs.Hidden.{has_known_targets, may_hide};
 ghost use Rattle.link_bundle_rules.specs.History.{bundle_of};
-ghost use Rattle.link_bundle_rules.specs.BundleFacts.{security_facts};
+ghost use Rattle.link_bundle_rules.specs.BundleFacts.{is_judged_security, security_facts};
 ghost use Rattle.link_bundle_rules.specs.Security.{may_protect_primary, if_confidential_primary, if_other_context_flags, if_reserved_context, may_be_lost, if_may_be_lost, if_no_cipher};
 ghost use Rattle.link_bundle_rules.specs.Targets.{has_target, is_integrity, is_confidentiality};
 
@@ -18,7 +18,7 @@ use crate::rule::BundleRule;
 use arrayvec::ArrayVec;
 use link_bundle_blocks::CanonicalBlock;
 use link_bundle_data::{DataView, Integer, TARGETS_KEPT};
-use link_rules_shared::has_other_flags;
+use link_rules_shared::{has_other_flags, is_node_of};
 
 /// The flags of a security context that are defined (RFC 9172 section 3.6).
 const CONTEXT_FLAGS: u64 = 0x01;
@@ -41,6 +41,8 @@ pub(crate) struct SecurityFacts {
     flags: u64,
     /// Whether its data is malformed or not read. Then what it says is not known.
     pub(crate) is_malformed: bool,
+    /// Whether it is judged: `check --own` judges only security blocks of one node.
+    pub(crate) is_judged: bool,
     /// Whether the primary block is among its targets.
     targets_primary: bool,
     /// The number of its targets.
@@ -70,11 +72,23 @@ fn kept_targets(targets: &[u64]) -> ArrayVec<u64, TARGETS_KEPT>
     kept
 }
 
+/// Whether a security block is judged: `own` is empty, or the block's source is known and is of the
+/// node `own`.
+pub(crate) fn is_judged_security(own: &[u8], read: &ReadBlockView<'_>) -> bool
+    ensures { result ≡ is_judged_security own.now (option_map viewed_result read.now.found) }
+{
+    match (own, &read.found) {
+        ([], _) => true,
+        (_, Some(Ok(DataView::Security(_, _, source)))) => is_node_of(own, source),
+        _ => false,
+    }
+}
+
 impl SecurityFacts {
     /// What the rules need of a security block. If its data is malformed or not read, what it says
     /// is not known.
-    pub(crate) fn of(read: &ReadBlockView<'_>) -> SecurityFacts
-        ensures { result ≡ security_facts read.now.block.now
+    pub(crate) fn of(is_judged: bool, read: &ReadBlockView<'_>) -> SecurityFacts
+        ensures { result ≡ security_facts is_judged read.now.block.now
             (option_map viewed_result read.now.found) }
     {
         let CanonicalBlock {
@@ -89,6 +103,7 @@ impl SecurityFacts {
                 block_type,
                 flags,
                 is_malformed: false,
+                is_judged,
                 targets_primary: block.targets_primary,
                 count: block.targets,
                 targets: kept_targets(targets),
@@ -100,6 +115,7 @@ impl SecurityFacts {
                 block_type,
                 flags,
                 is_malformed: true,
+                is_judged,
                 targets_primary: false,
                 count: 0,
                 targets: ArrayVec::new(),
@@ -161,7 +177,9 @@ impl SecurityFacts {
     pub(crate) fn if_confidential_primary(&self) -> Option<BundleRule>
         ensures { result ≡ if_confidential_primary self.now }
     {
-        let is_wrong = self.block_type == BLOCK_CONFIDENTIALITY && self.targets_primary;
+        let is_wrong = self.block_type == BLOCK_CONFIDENTIALITY
+            && self.targets_primary
+            && self.is_judged;
         is_wrong.then_some(BundleRule::ConfidentialPrimary { block: self.number })
     }
 

@@ -65,12 +65,14 @@ impl BundleHistory {
     ghost use Rattle.link_bundle_rules.specs.History.{bundle_of};
     ghost use Rattle.link_bundle_rules.specs.Targets.{is_confidentiality, counts, if_counted, first_counted, first_target, is_target_of, if_bad_targets, missing_target, security_targets, first_with, is_target_of_earlier_block, security_twice, is_confidential, shared_target, integrity_target, confidential_target, has_fault};
 
-    /// Whether a security block counts. It counts if its data is neither malformed nor unread, and
-    /// cannot be ciphertext.
+    /// Whether a security block counts. It counts if it is judged, and its data is neither
+    /// malformed nor unread, and cannot be ciphertext.
     pub(crate) fn counts(&self, block: &SecurityFacts) -> bool
         ensures { result ≡ counts (bundle_of self.now None 0) block.now }
     {
-        !block.is_malformed && !self.is_hidden_block(block.block_type, block.number)
+        block.is_judged
+            && !block.is_malformed
+            && !self.is_hidden_block(block.block_type, block.number)
     }
 
     /// Returns `broken` if this security block counts, and `None` otherwise. `broken` is the rule

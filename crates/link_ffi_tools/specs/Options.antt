@@ -1,8 +1,9 @@
 -- The options of the whole tools, as words of a caller. A word that is missing has the default of
 -- the program. A word that this version does not know has to be 0.
-use Rattle.std.specs.Prelude.{◌≡◌, ℕ, ◌^◌, ◌+◌, ◌-◌, Bool, not, ◌&&◌, ◌||◌, ◌==◌, nat_lt, nat_le, List, drop, get_or, Option, Some, None, if◌then◌else◌}
+use Rattle.std.specs.Prelude.{◌≡◌, ℕ, ◌^◌, ◌+◌, ◌-◌, Bool, not, ◌&&◌, ◌||◌, ◌==◌, nat_lt, nat_le, List, [], drop, get_or, Option, Some, None, if◌then◌else◌}
 use Rattle.std.specs.List.{list_any}
 use Rattle.link_tool_option_types.specs.declared.blocks.BlockOptions.{BlockOptions}
+use Rattle.link_tool_option_types.specs.declared.check.BundleCheckOptions.{BundleCheckOptions}
 use Rattle.link_tool_option_types.specs.declared.check.CheckOptions.{CheckOptions}
 use Rattle.link_tool_option_types.specs.declared.pack.PackOptions.{PackOptions}
 use Rattle.link_tool_option_types.specs.declared.wanted.Wanted.{Wanted}
@@ -132,21 +133,27 @@ abbrev pub check_in_range : List ℕ → Bool
 check_in_range words =
     check_numbers_fit (check_numbers words) && not (has_nonzero (drop 6 words))
 
--- what is judged of the recording
+-- what is judged of the recording; the bundles of every node are
 abbrev pub check_options_of : CheckNumbers → CheckOptions
 check_options_of numbers =
     record {
       must = numbers.must == 1;
+      own = record { items = [] };
       peer = record {
         segment = number_if numbers.has_peer_segment numbers.peer_segment;
         transfer = number_if numbers.has_peer_transfer numbers.peer_transfer;
       };
     }
 
+-- what is judged of the bundles; those of every node are
+abbrev pub bundle_check_options_of : CheckNumbers → BundleCheckOptions
+bundle_check_options_of numbers =
+    record { must = numbers.must == 1; own = record { items = [] } }
+
 -- The tool `check` with these options. It reads bundles if `bundles` is 1, and else a recording.
 abbrev pub check_of : CheckNumbers → Reading
 check_of numbers =
-    if numbers.bundles == 1 then reading.BundleCheck (numbers.must == 1)
+    if numbers.bundles == 1 then reading.BundleCheck (bundle_check_options_of numbers)
     else reading.Check (check_options_of numbers)
 
 -- `check` with the options that the words encode, or `None` if one is out of its range

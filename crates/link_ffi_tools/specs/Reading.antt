@@ -16,4 +16,4 @@ reading_tool (reading.Unpack wanted) = unpack_tool wanted
 reading_tool (reading.Blocks options) = blocks_tool options
 reading_tool reading.BundleBlocks = bundle_blocks_tool
 reading_tool (reading.Check options) = check_tool options
-reading_tool (reading.BundleCheck must) = bundle_check_tool must
+reading_tool (reading.BundleCheck options) = bundle_check_tool options

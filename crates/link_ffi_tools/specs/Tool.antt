@@ -6,7 +6,7 @@ use Rattle.link_tool_check.specs.Bundles.{bundle_check_tool}
 use Rattle.link_tool_check.specs.Checking.{check_tool}
 use Rattle.link_run.specs.Run.{Tool, Outcome}
 use Rattle.link_tool_unpack.specs.Unpacking.{unpack_tool}
-use Rattle.link_ffi_tools.specs.Options.{unpack_numbers, wanted_of, blocks_numbers, block_options_of, check_numbers, check_options_of}
+use Rattle.link_ffi_tools.specs.Options.{unpack_numbers, wanted_of, blocks_numbers, block_options_of, bundle_check_options_of, check_numbers, check_options_of}
 use Rattle.link_ffi_tools.specs.Slice.{HoldsPrefix, LeavesRest}
 use Rattle.link_ffi_tools.specs.declared.running.Run.{Run}
 use Rattle.link_ffi_tools.specs.declared.running.Wants.{Wants}
@@ -79,7 +79,7 @@ ReturnsBlocksTexts words bytes wants old new run status =
 -- the tool that these options of `check` ask for
 abbrev pub check_tool_of : CheckNumbers → Tool
 check_tool_of numbers =
-    if numbers.bundles == 1 then bundle_check_tool (numbers.must == 1)
+    if numbers.bundles == 1 then bundle_check_tool (bundle_check_options_of numbers)
     else check_tool (check_options_of numbers)
 
 -- what a run of `check` over these bytes, with these options, has returned

@@ -1,10 +1,12 @@
 //! The options of the whole tools, as numbers.
 
 ghost use Rattle.std.specs.Prelude.{◌≡◌, true, List, length, drop, get_or};
-ghost use Rattle.link_ffi_tools.specs.Options.{has_nonzero, number_if, switch_fits, unpack_numbers, unpack_numbers_fit, wanted_of, wanted_in, blocks_numbers, blocks_numbers_fit, blocks_of, blocks_in, check_numbers, check_numbers_fit, check_options_of, check_of, check_in, pack_numbers, pack_numbers_fit, pack_in_range, IsPackOptionsByNumbers, more_numbers, more_numbers_fit, more_in_range};
+ghost use Rattle.link_ffi_tools.specs.Options.{has_nonzero, number_if, switch_fits, unpack_numbers, unpack_numbers_fit, wanted_of, wanted_in, blocks_numbers, blocks_numbers_fit, blocks_of, blocks_in, check_numbers, check_numbers_fit, check_options_of, bundle_check_options_of, check_of, check_in, pack_numbers, pack_numbers_fit, pack_in_range, IsPackOptionsByNumbers, more_numbers, more_numbers_fit, more_in_range};
 
 use crate::reading::Reading;
-use link_tool_option_types::{BlockOptions, CheckOptions, PackOptions, PeerLimits, Wanted};
+use link_tool_option_types::{
+    BlockOptions, BundleCheckOptions, CheckOptions, PackOptions, PeerLimits, Wanted,
+};
 use link_wire::{MAX_NODE_ID, NodeId};
 
 /// The options of `unpack`, in the order of `struct tcpclkit_unpack_options`.
@@ -248,16 +250,27 @@ fn check_numbers_fit(numbers: &CheckNumbers) -> bool
         && (numbers.bundles == 0 || numbers.has_peer_segment == 0 && numbers.has_peer_transfer == 0)
 }
 
-/// What `check` judges of a recording with these options.
+/// What `check` judges of a recording with these options: the bundles of every node.
 fn check_options_of(numbers: &CheckNumbers) -> CheckOptions
     ensures { result ≡ check_options_of numbers.now }
 {
     CheckOptions {
         must: numbers.must == 1,
+        own: NodeId::new(),
         peer: PeerLimits {
             segment: number_if(numbers.has_peer_segment, numbers.peer_segment),
             transfer: number_if(numbers.has_peer_transfer, numbers.peer_transfer),
         },
+    }
+}
+
+/// What `check` judges of bundles with these options: those of every node.
+fn bundle_check_options_of(numbers: &CheckNumbers) -> BundleCheckOptions
+    ensures { result ≡ bundle_check_options_of numbers.now }
+{
+    BundleCheckOptions {
+        must: numbers.must == 1,
+        own: NodeId::new(),
     }
 }
 
@@ -266,9 +279,7 @@ fn check_of(numbers: &CheckNumbers) -> Reading
     ensures { result ≡ check_of numbers.now }
 {
     if numbers.bundles == 1 {
-        return Reading::BundleCheck {
-            must: numbers.must == 1,
-        };
+        return Reading::BundleCheck(bundle_check_options_of(numbers));
     }
     Reading::Check(check_options_of(numbers))
 }

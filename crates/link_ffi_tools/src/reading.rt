@@ -9,11 +9,11 @@ use link_run::RunEnd;
 use link_tool_blocks::{blocks, bundle_blocks};
 use link_tool_check::{bundle_check, check};
 use link_tool_list::list;
-use link_tool_option_types::{BlockOptions, CheckOptions, Wanted};
+use link_tool_option_types::{BlockOptions, BundleCheckOptions, CheckOptions, Wanted};
 use link_tool_unpack::unpack;
 
 /// A tool that takes no memory, with its options.
-#[derive(Clone, Copy, Debug, PartialEq, Eq)]
+#[derive(Debug, Drop, PartialEq, Eq)]
 pub enum Reading {
     /// `list`.
     List,
@@ -26,7 +26,7 @@ pub enum Reading {
     /// `check` of a recording.
     Check(CheckOptions),
     /// `check` of bundles.
-    BundleCheck { must: bool },
+    BundleCheck(BundleCheckOptions),
 }
 
 impl SliceTool for Reading {
@@ -47,7 +47,7 @@ impl SliceTool for Reading {
             Reading::Blocks(options) => blocks(options, reader, output, report),
             Reading::BundleBlocks => bundle_blocks(reader, output, report),
             Reading::Check(options) => check(options, reader, output, report),
-            Reading::BundleCheck { must } => bundle_check(must, reader, output, report),
+            Reading::BundleCheck(options) => bundle_check(options, reader, output, report),
         }
     }
 }

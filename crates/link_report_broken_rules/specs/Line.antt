@@ -1,8 +1,9 @@
 -- The line of a broken rule.
 
 use Rattle.std.specs.Prelude.{ℕ, List, [], ◌++◌, codes, decimal}
+use Rattle.link_rules_shared.specs.declared.level.Level.{Level}
 use Rattle.link_report.specs.Text.{number_text, newline}
-use Rattle.link_report_broken_rules.specs.Names.{level_name, rule_level, rule_name}
+use Rattle.link_report_broken_rules.specs.Names.{level_name, rule_name}
 use Rattle.link_report_broken_rules.specs.Words.{rule_words}
 use Rattle.link_report_broken_rules.specs.declared.rule.BrokenRule.{BrokenRule}
 use Rattle.link_report_broken_rules.specs.declared.rule.BrokenRule.TheVariants.{Message, Transfer, Bundle}
@@ -24,7 +25,7 @@ subject_text (Bundle place rule) = place_text place
 -- The line of a broken rule. `offset` is where the message begins that breaks the rule. For a rule
 -- of a transfer, or of the bundle in it, it is where the first message of the transfer begins. For
 -- a bundle in an input of bundles, it is where the bundle begins.
-unfoldable pub rule_line : (offset : ℕ) → BrokenRule → List ℕ
-rule_line offset rule =
-    decimal offset ++ codes " " ++ level_name (rule_level rule) ++ codes " " ++ rule_name rule
+unfoldable pub rule_line : (offset : ℕ) → Level → BrokenRule → List ℕ
+rule_line offset level rule =
+    decimal offset ++ codes " " ++ level_name level ++ codes " " ++ rule_name rule
     ++ subject_text rule ++ rule_words rule ++ newline

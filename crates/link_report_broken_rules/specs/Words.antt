@@ -127,7 +127,7 @@ bundle_words (bundle.BlockReports block) = number_text (codes " block=") block
 bundle_words (bundle.BlockFlags block flags) =
     number_text (codes " block=") block ++ control_field flags
 bundle_words (bundle.DtnName of) = codes " of=" ++ endpoint_name of ++ endpoint_block of
-bundle_words (bundle.Fragment offset size total) =
+bundle_words (bundle.Fragment offset size total level) =
     number_text (codes " offset=") offset ++ number_text (codes " length=") size
     ++ number_text (codes " total=") total
 bundle_words (bundle.WholeFragment total) = number_text (codes " total=") total

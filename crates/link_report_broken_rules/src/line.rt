@@ -8,7 +8,7 @@ use crate::names::{LEVEL_MAX, level_name, rule_name};
 use crate::rule::{BrokenRule, BundlePlace};
 use crate::words::{WORDS_MAX, write_words};
 use link_report::{write_bytes, write_decimal, write_number, write_text};
-use link_rules_shared::NAME_MAX;
+use link_rules_shared::{Level, NAME_MAX};
 use link_wire::Text;
 
 /// The greatest length in bytes of the words for a transfer or a bundle.
@@ -26,6 +26,8 @@ pub struct RuleText {
     ///
     /// For an input of bundles, it is the offset of the bundle.
     pub offset: u64,
+    /// How strictly the rule is meant, which may be less than without a doubt about the bundle.
+    pub level: Level,
     pub rule: BrokenRule,
 }
 
@@ -61,12 +63,12 @@ fn write_subject(page: &mut [u8], at: usize, rule: &BrokenRule) -> usize
 pub fn write_rule(page: &mut [u8], at: usize, line: &RuleText) -> usize
     requires { at + RULE_LINE_MAX ≤ length page.old }
     ensures { PutsText page.old page.new at result RULE_LINE_MAX
-        (rule_line line.now.offset line.now.rule) }
+        (rule_line line.now.offset line.now.level line.now.rule) }
 {
     let rule = &line.rule;
     let at = write_decimal(page, at, line.offset);
     let at = write_bytes(page, at, *b" ");
-    let at = write_text(page, at, level_name(rule.level()));
+    let at = write_text(page, at, level_name(line.level));
     let at = write_bytes(page, at, *b" ");
     let at = write_text(page, at, rule_name(rule));
     let at = write_subject(page, at, rule);
@@ -77,7 +79,7 @@ pub fn write_rule(page: &mut [u8], at: usize, line: &RuleText) -> usize
 impl Text for RuleText {
     ghost use Rattle.link_report_broken_rules.specs.Line.{rule_line};
 
-    ghost text = { λ line. rule_line line.offset line.rule };
+    ghost text = { λ line. rule_line line.offset line.level line.rule };
 
     /// Writes the line into the page at index `at`, and returns the index after it.
     #[inline(always)]

@@ -3,7 +3,7 @@
 ghost use Rattle.std.specs.Prelude.{◌≡◌};
 
 use link_bundle_rules::BundleRule;
-use link_rules_shared::Level;
+use link_rules_shared::{Doubt, Level};
 use link_session_rules::{MessageRule, TransferRule};
 
 /// Where a bundle is that breaks a rule.
@@ -30,15 +30,15 @@ impl BrokenRule {
     ghost use Rattle.std.specs.Prelude.{◌≡◌};
     ghost use Rattle.link_report_broken_rules.specs.Names.{rule_level};
 
-    /// How strictly the rule is meant.
+    /// How strictly the rule is meant, if an unknown part may have changed this much of the bundle.
     #[tactic(auto, unfolding(crate::specs::Names::rule_level))]
-    pub fn level(&self) -> Level
-        ensures { result ≡ rule_level self.now }
+    pub fn level(&self, doubt: Doubt) -> Level
+        ensures { result ≡ rule_level doubt self.now }
     {
         match self {
             BrokenRule::Message(rule) => rule.level(),
-            BrokenRule::Transfer(_, rule) => rule.level(),
-            BrokenRule::Bundle(_, rule) => rule.level(),
+            BrokenRule::Transfer(_, rule) => rule.level(doubt),
+            BrokenRule::Bundle(_, rule) => rule.level(doubt),
         }
     }
 }

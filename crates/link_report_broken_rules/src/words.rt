@@ -388,6 +388,7 @@ fn write_bundle(page: &mut [u8], at: usize, rule: &BundleRule) -> usize
             offset,
             size,
             total,
+            ..
         } => write_fragment(page, at, offset, size, total),
         BundleRule::WholeFragment { total } => write_number(page, at, *b" total=", total),
         BundleRule::Age { blocks, .. } | BundleRule::PreviousNode { blocks } => {

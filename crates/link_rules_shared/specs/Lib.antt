@@ -4,3 +4,5 @@ pub mod HeadWalk
 pub mod Prefix
 pub mod Uri
 pub mod DtnNames
+pub mod NodeIds
+pub mod Nodes

@@ -1,5 +1,5 @@
 -- The characters of URIs, and registered names (RFC 3986).
-use Rattle.std.specs.Prelude.{ℕ, Bool, true, not, ◌+◌, ◌&&◌, ◌||◌, ◌==◌, nat_eq, nat_le, List, [], ◌∷◌, length, map, drop, slice_index, Option, Some, None}
+use Rattle.std.specs.Prelude.{ℕ, Bool, true, not, ◌+◌, ◌&&◌, ◌||◌, ◌==◌, nat_eq, nat_le, List, [], ◌∷◌, length, map, take, drop, slice_index, Option, Some, None}
 use Rattle.std.specs.{Char.{is_ascii_graphic, is_ascii_hexdigit, to_ascii_lowercase}, Cmp.Lexicographic.pointwise}
 use Rattle.std.specs.List.{list_any, list_all, position}
 
@@ -15,6 +15,15 @@ after_at (Some at) bytes = drop (at + 1) bytes
 -- the bytes after the first byte that is `mark`, or all if there is none
 abbrev pub after_mark : (mark : ℕ) → List ℕ → List ℕ
 after_mark mark bytes = after_at (first_of mark bytes) bytes
+
+-- the bytes before the one at this index, or all without an index
+abbrev pub before_at : Option ℕ → List ℕ → List ℕ
+before_at None bytes = bytes
+before_at (Some at) bytes = take at bytes
+
+-- the bytes before the first byte that is `mark`, or all if there is none
+abbrev pub before_mark : (mark : ℕ) → List ℕ → List ℕ
+before_mark mark bytes = before_at (first_of mark bytes) bytes
 
 -- whether a text is this word, whatever the case of its letters
 unfoldable pub is_word : (word text : List ℕ) → Bool

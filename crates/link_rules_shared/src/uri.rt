@@ -2,7 +2,7 @@
 
 ghost use Rattle.std.specs.Prelude.{◌≡◌};
 ghost use Rattle.std.specs.List.{list_all};
-ghost use Rattle.link_rules_shared.specs.Uri.{first_of, after_mark, is_word, is_uri_byte, begins_octet, has_whole_escapes, are_uri_bytes, is_name_byte, is_reg_name};
+ghost use Rattle.link_rules_shared.specs.Uri.{first_of, after_mark, before_mark, is_word, is_uri_byte, begins_octet, has_whole_escapes, are_uri_bytes, is_name_byte, is_reg_name};
 
 /// The bytes from 21 to 7e that are in no URI (section 2).
 const OTHERS: [u8; 9] = *b"\"<>\\^`{|}";
@@ -23,6 +23,16 @@ pub fn after_mark(mark: u8, bytes: &[u8]) -> &[u8]
 {
     match first_of(mark, bytes) {
         Some(at) => &bytes[at + 1..],
+        None => bytes,
+    }
+}
+
+/// The bytes before the first byte that is `mark`, or all if there is none.
+pub fn before_mark(mark: u8, bytes: &[u8]) -> &[u8]
+    ensures { result.now ≡ before_mark mark bytes.now }
+{
+    match first_of(mark, bytes) {
+        Some(at) => &bytes[..at],
         None => bytes,
     }
 }

@@ -17,12 +17,15 @@ use link_wire::{IoFault, OutDevice};
 
 /// What a tool keeps of the whole blocks of a bundle, and what it says of each.
 pub trait BlockConsumer {
+    /// What never changes in a run of the tool.
+    type Options;
+
     /// What the tool writes to the output for the whole blocks in the first bytes of the bundle
     /// with this number.
     ghost says: { ℕ → List ℕ → List ℕ };
 
     /// The tool's fields agree with the whole blocks in these bytes of a bundle.
-    ghost knows: { Self → List ℕ → Type 0 };
+    ghost knows: { Self.Options → Self → List ℕ → Type 0 };
 
     /// Writes what the tool says of a block of the bundle with this number.
     ///
@@ -30,6 +33,7 @@ pub trait BlockConsumer {
     /// bundle. `reader` has read the block's data.
     fn block<W: OutDevice, E: OutDevice>(
         &mut self,
+        options: &Self::Options,
         number: u64,
         block: &BlockView<'_>,
         reader: &DataReader,
@@ -37,22 +41,23 @@ pub trait BlockConsumer {
     ) -> Result<(), IoFault>
         requires read { read_size reader.now < 2 ^ 63 }
         requires short { IfPrimaryHasShortEids (viewed_block block.now) }
-        ensures { (before run : List ℕ) → knows self.old before → bundle_goes before ≡ true
+        ensures { (before run : List ℕ) → knows options.now self.old before
+            → bundle_goes before ≡ true
             → blocks_in (before ++ run) ≡ blocks_in before ++ viewed_block block.now ∷ []
             → length (before ++ run) < 2 ^ 63
             → HasReadToBlockEnd reader.now (before ++ run) (viewed_block block.now)
             → WritesRestOfTexts W.state E.state (on_output (says number before))
-            (on_output (says number (before ++ run))) (knows self.new (before ++ run))
+            (on_output (says number (before ++ run))) (knows options.now self.new (before ++ run))
             writers.old writers.new result };
 
     // more bytes add to what the tool says
     ghost grows: { (number : ℕ) (before more : List ℕ) → HasLastingText (says number) before more };
 
     // bytes with which no block ends change nothing
-    ghost steady: { (number : ℕ) (consumer : Self) (before more : List ℕ)
+    ghost steady: { (number : ℕ) (options : Self.Options) (consumer : Self) (before more : List ℕ)
         → blocks_in (before ++ more) ≡ blocks_in before
         → (says number (before ++ more) ≡ says number before)
-        × (knows consumer before → knows consumer (before ++ more)) };
+        × (knows options consumer before → knows options consumer (before ++ more)) };
 }
 
 /// Reads the block data in a run of the bundle with this number, and tells the consumer of the
@@ -62,6 +67,7 @@ pub trait BlockConsumer {
 /// bytes of the bundle. In the contract, `seen` is these first bytes.
 #[inline(always)]
 pub fn tell_run<C: BlockConsumer, W: OutDevice, E: OutDevice>(
+    options: &C::Options,
     number: u64,
     before: u64,
     run: &[u8],
@@ -76,14 +82,17 @@ pub fn tell_run<C: BlockConsumer, W: OutDevice, E: OutDevice>(
     ensures gives { (seen : List ℕ) → length seen ≡ before → bundle_goes seen ≡ true
         → HasScanned scan.now (seen ++ run.now)
         → blocks_in (seen ++ run.now) ≡ blocks_in seen ++ ending scan.now
-        → IsDataReaderAt reader.old seen → C.knows consumer.old seen
+        → IsDataReaderAt reader.old seen → C.knows options.now consumer.old seen
         → WritesRestOfTexts W.state E.state (on_output (C.says number seen))
         (on_output (C.says number (seen ++ run.now)))
-        (IsDataReaderAt reader.new (seen ++ run.now) × C.knows consumer.new (seen ++ run.now))
+        (IsDataReaderAt reader.new (seen ++ run.now)
+        × C.knows options.now consumer.new (seen ++ run.now))
         writers.old writers.new result }
 {
     match scan.ended_block() {
-        Some(_) => tell_ended(number, before, run, scan, reader, consumer, writers),
+        Some(_) => tell_ended(
+            options, number, before, run, scan, reader, consumer, writers,
+        ),
         None => {
             reader.follow_cut(before, run, scan);
             Ok(())
@@ -98,6 +107,7 @@ pub fn tell_run<C: BlockConsumer, W: OutDevice, E: OutDevice>(
 // it in each piece.
 #[inline(never)]
 fn tell_ended<C: BlockConsumer, W: OutDevice, E: OutDevice>(
+    options: &C::Options,
     number: u64,
     before: u64,
     run: &[u8],
@@ -113,10 +123,11 @@ fn tell_ended<C: BlockConsumer, W: OutDevice, E: OutDevice>(
     ensures gives { (seen : List ℕ) → length seen ≡ before → bundle_goes seen ≡ true
         → HasScanned scan.now (seen ++ run.now)
         → blocks_in (seen ++ run.now) ≡ blocks_in seen ++ ending scan.now
-        → IsDataReaderAt reader.old seen → C.knows consumer.old seen
+        → IsDataReaderAt reader.old seen → C.knows options.now consumer.old seen
         → WritesRestOfTexts W.state E.state (on_output (C.says number seen))
         (on_output (C.says number (seen ++ run.now)))
-        (IsDataReaderAt reader.new (seen ++ run.now) × C.knows consumer.new (seen ++ run.now))
+        (IsDataReaderAt reader.new (seen ++ run.now)
+        × C.knows options.now consumer.new (seen ++ run.now))
         writers.old writers.new result }
 {
     match scan.ended_block() {
@@ -124,11 +135,15 @@ fn tell_ended<C: BlockConsumer, W: OutDevice, E: OutDevice>(
         // If both kinds shared a call, the compiler would merge their fields.
         Some(BlockView::Primary(block)) => {
             let block = BlockView::Primary(block);
-            tell_block(number, before, run, &block, scan, reader, consumer, writers)
+            tell_block(
+                options, number, before, run, &block, scan, reader, consumer, writers,
+            )
         }
         Some(BlockView::Canonical(block)) => {
             let block = BlockView::Canonical(block);
-            tell_block(number, before, run, &block, scan, reader, consumer, writers)
+            tell_block(
+                options, number, before, run, &block, scan, reader, consumer, writers,
+            )
         }
         // No run comes here without a block, by the condition `ended`.
         None => Ok(()),
@@ -138,6 +153,7 @@ fn tell_ended<C: BlockConsumer, W: OutDevice, E: OutDevice>(
 /// [`tell_run`] for a run that ends with this block.
 #[inline(always)]
 fn tell_block<C: BlockConsumer, W: OutDevice, E: OutDevice>(
+    options: &C::Options,
     number: u64,
     before: u64,
     run: &[u8],
@@ -155,14 +171,15 @@ fn tell_block<C: BlockConsumer, W: OutDevice, E: OutDevice>(
     ensures gives { (seen : List ℕ) → length seen ≡ before → bundle_goes seen ≡ true
         → HasScanned scan.now (seen ++ run.now)
         → blocks_in (seen ++ run.now) ≡ blocks_in seen ++ ending scan.now
-        → IsDataReaderAt reader.old seen → C.knows consumer.old seen
+        → IsDataReaderAt reader.old seen → C.knows options.now consumer.old seen
         → WritesRestOfTexts W.state E.state (on_output (C.says number seen))
         (on_output (C.says number (seen ++ run.now)))
-        (IsDataReaderAt reader.new (seen ++ run.now) × C.knows consumer.new (seen ++ run.now))
+        (IsDataReaderAt reader.new (seen ++ run.now)
+        × C.knows options.now consumer.new (seen ++ run.now))
         writers.old writers.new result }
 {
     reader.follow(before, run, block, scan);
-    consumer.block(number, block, reader, writers)
+    consumer.block(options, number, block, reader, writers)
 }
 
 /// Scans the next piece of a bundle, and tells the consumer of each block that ends in it.
@@ -171,6 +188,7 @@ fn tell_block<C: BlockConsumer, W: OutDevice, E: OutDevice>(
 /// the scan needs no more bytes, no block ends in the piece. If bytes follow the whole bundle, the
 /// scan takes the first of them, which makes its verdict a fault.
 pub fn tell_piece<C: BlockConsumer, W: OutDevice, E: OutDevice>(
+    options: &C::Options,
     number: u64,
     before: u64,
     piece: &[u8],
@@ -185,18 +203,19 @@ pub fn tell_piece<C: BlockConsumer, W: OutDevice, E: OutDevice>(
     ensures scanned { scan_size scan.new ≤ before + length piece.now }
     ensures read { read_size reader.new ≤ before + length piece.now }
     ensures gives { (seen : List ℕ) → length seen ≡ before → HasJudged scan.old seen
-        → IsDataReaderAt reader.old seen → C.knows consumer.old seen
+        → IsDataReaderAt reader.old seen → C.knows options.now consumer.old seen
         → WritesRestOfTexts W.state E.state (on_output (C.says number seen))
         (on_output (C.says number (seen ++ piece.now)))
         (HasJudged scan.new (seen ++ piece.now) × IsDataReaderAt reader.new (seen ++ piece.now)
-        × C.knows consumer.new (seen ++ piece.now)) writers.old writers.new result }
+        × C.knows options.now consumer.new (seen ++ piece.now)) writers.old writers.new result }
 {
     let mut taken = 0;
     while taken < piece.len() && scan.going() {
         let rest = &piece[taken..];
         let count = scan.feed_block(rest);
+        let run = &rest[..count];
         let at = before + taken as u64;
-        if let Err(fault) = tell_run(number, at, &rest[..count], scan, reader, consumer, writers) {
+        if let Err(fault) = tell_run(options, number, at, run, scan, reader, consumer, writers) {
             return Err(fault);
         }
         taken += count;

@@ -15,7 +15,7 @@ use Rattle.link_session_rules.specs.declared.lengths.TransferSoFar.{TransferSoFa
 use Rattle.link_session_rules.specs.declared.session.Since.{Since}
 use Rattle.link_tool_option_types.specs.declared.limits.PeerLimits.{PeerLimits}
 use Rattle.link_session_rules.proofs.{Joined.segments_of-push, Kept.{segment_kept, unrejected_by}}
-use Rattle.link_session_rules.proofs.Pushes.{messages_of-push, newest_then, or_none, first_parameters_push}
+use Rattle.link_session_rules.proofs.Pushes.{messages_of-push, newest_then, or_none, first_parameters_push, first_node_push, node_without}
 use Rattle.link_session_rules.proofs.Since.{next_same, session_then, keepalives_then}
 
 abbrev pub inner : (id size : ℕ) → SegmentHead
@@ -64,6 +64,8 @@ module _ (id size : ℕ) (before : List HeadWithOrder) where
       rw is (record {
         parameters = rw (messages_of-push before head, first_parameters_push _ head.message)
             (at.parameters ∙ sym (or_none _));
+        node = rw (messages_of-push before head, first_node_push _ head.message)
+            (at.node ∙ sym (node_without _ _ (inner id size)));
         session = since ∙ session_then before head old.session at.session;
         keepalives = sym (next_same old.keepalives) ∙ keepalives_then before head _ at.keepalives;
         ids = rw (newest_then before head)

@@ -1,8 +1,10 @@
 -- The heads so far, with one more.
-use Rattle.std.proofs.Common.{◌≡◌, List, [], ◌∷◌, ◌++◌, ◌||◌, reverse, is_some, Option, Bool, Some, None, refl, sym, ◌∙◌}
+use Rattle.std.proofs.Common.{◌≡◌, ℕ, List, [], ◌∷◌, ◌++◌, ◌||◌, reverse, is_some, Option, Bool, Some, None, refl, sym, ◌∙◌}
 use Rattle.std.{specs.{Option.option_or, List.list_any}, proofs.Math.Bool.or_comm, proofs.lemmas.List.{map_push, reverse-append, Recursion.or_push}}
-use Rattle.link_wire.specs.declared.message.Message.{Message}
-use Rattle.link_session_rules.specs.{Heads.{HeadWithOrder, messages_of, newest, is_sess_init, parameters_of}, Session.first_parameters}
+use Rattle.link_wire.specs.declared.message.{SegmentHead.SegmentHead, Message.Message}
+use Rattle.link_wire.specs.declared.message.Message.TheVariants.{SessInit, Segment, Ack, Refuse, Keepalive, SessTerm, MsgReject}
+use Rattle.link_session_rules.specs.{Heads.{HeadWithOrder, messages_of, newest, is_sess_init, parameters_of}, Session.{first_parameters, first_node}}
+use Rattle.link_session_rules.specs.declared.session.Parameters.{Parameters}
 
 pub messages_of-push : (before : List HeadWithOrder) (head : HeadWithOrder)
     → messages_of (before ++ head ∷ []) ≡ messages_of before ++ head.message ∷ []
@@ -63,3 +65,33 @@ first_parameters_push [] message = or_none (parameters_of message)
 first_parameters_push (oldest ∷ more) message =
     rw (first_parameters_push more message)
     (or_assoc (parameters_of oldest) (first_parameters more) (parameters_of message))
+
+-- The node ID of the first SESS_INIT, after one more message. `first` are the parameters of the
+-- first SESS_INIT before the message, and `node` is the node ID of this SESS_INIT.
+abbrev pub node_with : (first : Option Parameters) → (node : List ℕ) → Message → List ℕ
+node_with None node (SessInit interval segment_mru transfer_mru own items) = own.items
+node_with first node message = node
+
+pub first_node_push : (before : List Message) (message : Message)
+    → first_node (before ++ message ∷ [])
+    ≡ node_with (first_parameters before) (first_node before) message
+first_node_push [] (SessInit interval segment_mru transfer_mru node items) = refl
+first_node_push [] (Segment segment) = refl
+first_node_push [] (Ack flags id size) = refl
+first_node_push [] (Refuse reason id) = refl
+first_node_push [] Keepalive = refl
+first_node_push [] (SessTerm flags reason) = refl
+first_node_push [] (MsgReject reason header) = refl
+first_node_push (SessInit interval segment_mru transfer_mru node items ∷ more) message = refl
+first_node_push (Segment segment ∷ more) message = first_node_push more message
+first_node_push (Ack flags id size ∷ more) message = first_node_push more message
+first_node_push (Refuse reason id ∷ more) message = first_node_push more message
+first_node_push (Keepalive ∷ more) message = first_node_push more message
+first_node_push (SessTerm flags reason ∷ more) message = first_node_push more message
+first_node_push (MsgReject reason header ∷ more) message = first_node_push more message
+
+-- a segment has no node ID
+pub node_without : (first : Option Parameters) (node : List ℕ) (segment : SegmentHead)
+    → node_with first node (Segment segment) ≡ node
+node_without None node segment = refl
+node_without (Some parameters) node segment = refl

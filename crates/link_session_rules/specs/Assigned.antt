@@ -29,17 +29,19 @@ item_type message =
 -- ---- reject-known
 
 -- Whether a MSG_REJECT's reason (1 unknown, 2 unsupported, 3 unexpected) does not fit the type that
--- it rejects. `is_known` is whether that type is from 01 to 07.
-abbrev pub does_not_fit : (reason : ℕ) → (is_known : Bool) → Bool
-does_not_fit reason is_known = if is_known then reason == 1 else ((reason == 2) || (reason == 3))
+-- it rejects. Types 01 to 07 are known, and type 00 is reserved (section 8.5). Any other type may
+-- be known, although it was not negotiated, or unknown.
+abbrev pub does_not_fit : (reason header : ℕ) → Bool
+does_not_fit reason header =
+    if header == 0
+    then (reason == 2) || (reason == 3)
+    else nat_le header 7 && (reason == 1)
 
--- reject-known: a MSG_REJECT with reason 01 rejects a type other than 01 to 07, and a MSG_REJECT
--- with reason 02 or 03 rejects a type from 01 to 07 (section 5.1.2)
+-- reject-known: a MSG_REJECT with reason 01 rejects no type from 01 to 07, and a MSG_REJECT with
+-- reason 02 or 03 does not reject type 00 (section 5.1.2)
 unfoldable pub reject_known : Message → Option MessageRule
 reject_known (MsgReject reason header) =
-    if does_not_fit reason (nat_le 1 header && nat_le header 7)
-    then Some (RejectKnown reason header)
-    else None
+    if does_not_fit reason header then Some (RejectKnown reason header) else None
 reject_known message = None
 
 -- ---- reason

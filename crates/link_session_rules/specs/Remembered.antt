@@ -1,15 +1,14 @@
--- Relations: what a history keeps of the heads so far, which is as much as the rules for the next
--- one need.
+-- Relations: what a history keeps of the heads so far. This is as much as the rules for the next
+-- one need, and the node ID of the first SESS_INIT.
 use Rattle.std.specs.Prelude.{◌≡◌, ℕ, ◌+◌, ◌^◌, Bool, not, ◌&&◌, ◌==◌, nat_lt, nat_le, List, [], ◌∷◌, map, take, Option, Some, None, if◌then◌else◌}
 use Rattle.std.specs.List.{list_any, after_first, cons_option}
 use Rattle.link_wire.specs.declared.message.{SegmentHead.SegmentHead, Message.Message}
 use Rattle.link_session_rules.specs.Answers.{last_ack, last_refused, is_acked_since}
 use Rattle.link_session_rules.specs.Endings.{rejects_type, follows, begins_after}
 use Rattle.link_session_rules.specs.Heads.{HeadWithOrder, messages_of, newest, held, is_sess_init, is_sess_term, is_keepalive, disables_keepalive, is_of_transfer}
-use Rattle.link_session_rules.specs.Lengths.{segments_of, first_segment, size_of}
-use Rattle.link_session_rules.specs.Session.{first_parameters}
+use Rattle.link_session_rules.specs.Lengths.{segments_of, announced_first, size_of}
+use Rattle.link_session_rules.specs.Session.{first_parameters, first_node}
 use Rattle.link_session_rules.specs.TransferIds.{last_runs, jumps}
-use Rattle.link_session_rules.specs.TransferRules.{opening_of}
 use Rattle.link_session_rules.specs.declared.{transfer_ids.IdRun.IdRun, transfer_ids.TransferIds.TransferIds, answers.Answers.Answers, endings.Endings.Endings}
 use Rattle.link_session_rules.specs.declared.session.Since.{Since}
 use Rattle.link_session_rules.specs.declared.session.Since.TheVariants.{Neither, First, Both}
@@ -102,11 +101,11 @@ within_64_bits sum = if nat_lt sum (2 ^ 64) then Some sum else None
 abbrev pub so_far_of : List SegmentHead → Option TransferSoFar
 so_far_of [] = None
 so_far_of (segment ∷ earlier) = Some (record {
-  opening = opening_of (first_segment segment earlier);
+  announced = announced_first segment earlier;
   sent = within_64_bits (size_of (segment ∷ earlier));
 })
 
--- the history keeps what the rules need of exactly these heads
+-- the history keeps of exactly these heads what the rules need, and the first node ID
 pub record IsMessageHistoryAt (history : MessageHistory) (heads : List HeadWithOrder) : Type 0 where
   pub parameters : history.parameters ≡ first_parameters (messages_of heads)
   pub session : history.session ≡ session_of (messages_of heads)
@@ -115,3 +114,4 @@ pub record IsMessageHistoryAt (history : MessageHistory) (heads : List HeadWithO
   pub answers : AreAnswersAt history.answers (newest heads)
   pub transfer : history.transfer ≡ so_far_of (segments_of heads)
   pub endings : AreEndingsAt history.endings (newest heads)
+  pub node : history.node.items ≡ first_node (messages_of heads)

@@ -17,6 +17,12 @@ abbrev pub first_parameters : List Message → Option Parameters
 first_parameters [] = None
 first_parameters (message ∷ more) = option_or (parameters_of message) (first_parameters more)
 
+-- the node ID of the first SESS_INIT (section 4.6); no bytes without one
+abbrev pub first_node : List Message → List ℕ
+first_node [] = []
+first_node (message.SessInit interval segment_mru transfer_mru node items ∷ more) = node.items
+first_node (other ∷ more) = first_node more
+
 -- whether two SESS_INITs set the same parameters
 abbrev pub are_same : Parameters → Parameters → Bool
 are_same first second =

@@ -1,12 +1,14 @@
 -- The rules that the length of a closed transfer breaks (RFC 9174 section 5.2.5.1). `first` is the
 -- head of its first segment, and `size` the number of bytes of its data.
-use Rattle.std.specs.Prelude.{ℕ, Bool, true, false, ◌&&◌, ◌==◌, List, [], ◌∷◌, codes, filter_map, Option, Some, None, if◌then◌else◌}
-use Rattle.link_wire.specs.Codes.{is_start, is_end}
-use Rattle.link_wire.specs.declared.message.SegmentHead.{SegmentHead}
+use Rattle.std.specs.Prelude.{ℕ, Bool, true, false, not, ◌&&◌, ◌==◌, List, [], ◌∷◌, codes, filter_map, Option, Some, None, if◌then◌else◌}
+use Rattle.std.specs.List.{list_any}
+use Rattle.link_wire.specs.Codes.{is_start, is_end, transfer_length}
+use Rattle.link_wire.specs.declared.message.{Item.Item, SegmentHead.SegmentHead}
 use Rattle.link_transfer.specs.Announced.{announced_of}
 use Rattle.link_transfer.specs.declared.announcement.Announced.{Announced}
 use Rattle.link_transfer.specs.declared.announcement.Announced.TheVariants.{Absent, Total, Malformed}
 use Rattle.link_session_rules.specs.declared.opening.Opening.{Opening}
+use Rattle.link_rules_shared.specs.declared.doubt.{Doubt.Doubt, Doubt.TheVariants.WholeBundle}
 use Rattle.link_rules_shared.specs.declared.level.{Level.Level, Level.TheVariants.{Must, Should}}
 use Rattle.link_session_rules.specs.declared.rule.TransferRule.{TransferRule}
 use Rattle.link_session_rules.specs.declared.rule.TransferRule.TheVariants as rule
@@ -60,19 +62,31 @@ transfer_name_of rule.LengthOfOneSegment = codes "length-of-one-segment"
 transfer_name_of (rule.Bundle fault byte) = codes "bundle"
 transfer_name_of (rule.NotRead fault byte) = codes "not-read"
 
--- how strictly a rule of transfers is meant
-unfoldable pub transfer_level_of : TransferRule → Level
-transfer_level_of (rule.Unfinished size) = Should
-transfer_level_of rule.LengthItem = Must
-transfer_level_of (rule.LengthDiffers announced size) = Must
-transfer_level_of rule.LengthOfOneSegment = Should
-transfer_level_of (rule.Bundle fault byte) = Must
-transfer_level_of (rule.NotRead fault byte) = Should
+-- How strictly it is forbidden that the data of a transfer is no bundle. An extension item of an
+-- unknown type may permit it (section 5.2.5).
+abbrev pub no_bundle_level : Doubt → Level
+no_bundle_level WholeBundle = Should
+no_bundle_level _ = Must
 
--- what is kept of the first segment of a transfer: the length that it announces, and whether it is
--- the only segment
+-- how strictly a rule of transfers is meant, by what an unknown part may have changed in the bundle
+unfoldable pub transfer_level_of : Doubt → TransferRule → Level
+transfer_level_of doubt (rule.Unfinished size) = Should
+transfer_level_of doubt rule.LengthItem = Must
+transfer_level_of doubt (rule.LengthDiffers announced size) = Must
+transfer_level_of doubt rule.LengthOfOneSegment = Should
+transfer_level_of doubt (rule.Bundle fault byte) = no_bundle_level doubt
+transfer_level_of doubt (rule.NotRead fault byte) = Should
+
+-- whether an extension item has a type other than the one of Transfer Length items, 0001 (section
+-- 8.4), whatever its flags are
+abbrev pub has_other_item : List Item → Bool
+has_other_item items = list_any (λ (item : Item). not (item.kind == transfer_length)) items
+
+-- what is kept of the first segment of a transfer: the length that it announces, whether it is the
+-- only segment, and whether it has an item of a type other than Transfer Length
 abbrev pub opening_of : SegmentHead → Opening
 opening_of first = record {
   announced = announced_of first.items.items;
   single = is_start first.flags && is_end first.flags;
+  has_other_item = has_other_item first.items.items;
 }

@@ -13,7 +13,7 @@ use link_wire::{Fields, MessageBuffer};
 const PRIVATE_TYPE: u16 = 0x8000;
 
 /// The type of a Transfer Length item (RFC 9174 section 5.2.5.1).
-const TRANSFER_LENGTH: u16 = 1;
+pub(crate) const TRANSFER_LENGTH: u16 = 1;
 
 /// Whether the type of an item of this message is neither assigned nor for private use. The only
 /// assigned type is `TRANSFER_LENGTH`, in a segment.
@@ -48,7 +48,8 @@ pub(crate) fn item_type(message: &MessageBuffer) -> Option<MessageRule>
 }
 
 /// The rule of rejected types, if it is broken. A type from 1 to 7 is known, so reason 1 (unknown)
-/// breaks it. For any other type, reason 2 (unsupported) or 3 (unexpected) breaks it.
+/// breaks it. Type 0 is reserved, so reason 2 (unsupported) or 3 (unexpected) breaks it. Any other
+/// type may be known, although it was not negotiated, or unknown.
 #[tactic(auto, unfolding(crate::specs::Assigned::reject_known))]
 pub(crate) fn reject_known(message: &MessageBuffer) -> Option<MessageRule>
     ensures { result ≡ reject_known (message_of message.now) }
@@ -57,8 +58,9 @@ pub(crate) fn reject_known(message: &MessageBuffer) -> Option<MessageRule>
         return None;
     };
     let is_wrong = match header {
+        0 => reason == 2 || reason == 3,
         1..=7 => reason == 1,
-        _ => reason == 2 || reason == 3,
+        _ => false,
     };
     is_wrong.then_some(MessageRule::RejectKnown { reason, header })
 }

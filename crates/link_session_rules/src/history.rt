@@ -9,13 +9,13 @@ use crate::lengths::{TransferSoFar, peer_segment, peer_transfer, so_far_after};
 use crate::node::{node_id, node_name};
 use crate::rule::MessageRule;
 use crate::session::{
-    Parameters, Since, before_session, keepalive, keepalive_interval, keepalives_after, order,
-    parameters_after, session_after,
+    Parameters, Since, before_session, keep_first, keepalive, keepalive_interval, keepalives_after,
+    order, session_after,
 };
 use crate::transfer_ids::{TransferIds, interleaved};
 use arrayvec::ArrayVec;
 use link_rules_shared::broken_of;
-use link_tool_option_types::PeerLimits;
+use link_tool_option_types::{NodeId, PeerLimits};
 use link_wire::{Fields, MessageBuffer};
 
 /// The number of rules of a message.
@@ -25,6 +25,8 @@ const RULES: usize = 21;
 pub type BrokenRules = ArrayVec<MessageRule, RULES>;
 
 /// The messages so far, as far as the rules for the next one need them.
+///
+/// The node ID is kept for the rules of bundles.
 #[derive(Debug, Drop)]
 pub struct MessageHistory {
     /// The parameters of the first SESS_INIT.
@@ -42,16 +44,19 @@ pub struct MessageHistory {
     transfer: Option<TransferSoFar>,
     /// The ends of the session.
     endings: Endings,
+    /// The node ID of the first SESS_INIT.
+    node: NodeId,
 }
 
 impl MessageHistory {
     ghost use Rattle.std.specs.Prelude.{◌≡◌, ℕ, true, false, List, [], ◌∷◌, ◌++◌};
     ghost use Rattle.link_wire.specs.MessageBuffer.{IfSegmentItemsHaveTotals, message_of};
     ghost use Rattle.std.specs.List.{list_any};
-    ghost use Rattle.link_session_rules.specs.Heads.{HeadWithOrder, viewed_head, newest, is_sess_init};
+    ghost use Rattle.link_session_rules.specs.Heads.{HeadWithOrder, viewed_head, messages_of, newest, is_sess_init};
     ghost use Rattle.link_session_rules.specs.MessageRules.{broken_rules};
     ghost use Rattle.link_session_rules.specs.Kept.{AreAnswerRulesKept, AreSegmentRulesKept, inner_head};
     ghost use Rattle.link_session_rules.specs.Remembered.{IsMessageHistoryAt};
+    ghost use Rattle.link_session_rules.specs.Session.{first_node};
 
     /// The history before the first message.
     pub fn new() -> MessageHistory
@@ -65,6 +70,7 @@ impl MessageHistory {
             answers: Answers::none(),
             transfer: None,
             endings: Endings::none(),
+            node: NodeId::new(),
         }
     }
 
@@ -228,6 +234,14 @@ impl MessageHistory {
         }
     }
 
+    /// The node ID of the first SESS_INIT; no bytes if none came.
+    pub fn node(&self) -> &[u8]
+        ensures { (before : List HeadWithOrder) → IsMessageHistoryAt self.now before
+            → result.now ≡ first_node (messages_of before) }
+    {
+        self.node.as_slice()
+    }
+
     /// Takes the next message.
     #[inline(always)]
     pub fn take(&mut self, head: &JudgedHeadView<'_>)
@@ -243,6 +257,6 @@ impl MessageHistory {
         self.transfer = so_far_after(self.transfer, head);
         self.session = session_after(self.session, message);
         self.keepalives = keepalives_after(self.keepalives, message);
-        self.parameters = parameters_after(self.parameters, message);
+        keep_first(&mut self.parameters, &mut self.node, message);
     }
 }

@@ -8,7 +8,6 @@ ghost use Rattle.link_session_rules.specs.Lengths.{peer_segment, if_passed, if_e
 ghost use Rattle.link_session_rules.specs.Remembered.{within_64_bits, so_far_of};
 
 use crate::head::{JudgedHeadView, announcement};
-use crate::opening::Opening;
 use crate::rule::MessageRule;
 use link_transfer::{Announced, Turn};
 use link_wire::{Fields, MessageBuffer};
@@ -16,7 +15,8 @@ use link_wire::{Fields, MessageBuffer};
 /// The segments of one transfer so far.
 #[derive(Clone, Copy, Debug, PartialEq, Eq)]
 pub(crate) struct TransferSoFar {
-    opening: Opening,
+    /// The length that the first segment announces.
+    announced: Announced,
     /// The length of the data, or `None` if it exceeds 64 bits, and so every limit.
     sent: Option<u64>,
 }
@@ -68,7 +68,7 @@ impl TransferSoFar {
             → Some result ≡ so_far_of (segment ∷ []) }
     {
         TransferSoFar {
-            opening: Opening::of(message, flags),
+            announced: announcement(message, flags),
             sent: Some(length),
         }
     }
@@ -93,7 +93,7 @@ impl TransferSoFar {
             (announced_of (first_segment previous earlier).items.items) segment
             (previous ∷ earlier) }
     {
-        match self.opening.announced {
+        match self.announced {
             // The first segment broke the rule.
             Announced::Total(announced) if announced > limit => None,
             _ => passed(limit, self.sent, length),

@@ -1,6 +1,7 @@
 //! The rules that a node breaks with a message, and with a transfer (RFC 9174).
 //!
-//! A [`MessageHistory`] keeps what the rules need of the messages so far. It has a fixed size.
+//! A [`MessageHistory`] keeps what the rules need of the messages so far, and the first node ID. It
+//! has a fixed size.
 //!
 //! ```ignore
 //! let mut history = MessageHistory::new();
@@ -33,7 +34,7 @@ mod transfer_ids;
 pub use flags::contact_flags;
 pub use head::JudgedHeadView;
 pub use history::{BrokenRules, MessageHistory};
-pub use link_rules_shared::Level;
+pub use link_rules_shared::{Doubt, Level};
 pub use link_tool_option_types::PeerLimits;
 pub use opening::{BrokenTransferRules, Opening};
 pub use rule::{AnswerFault, MessageRule, TransferRule};

@@ -1,7 +1,10 @@
 //! The rules that the length of a transfer breaks.
 
 ghost use Rattle.std.specs.Prelude.{◌≡◌};
+ghost use Rattle.link_wire.specs.MessageBuffer.{segment_items};
+ghost use Rattle.link_session_rules.specs.TransferRules.{has_other_item};
 
+use crate::assigned::TRANSFER_LENGTH;
 use crate::head::{announcement, is_end, is_start};
 use crate::rule::TransferRule;
 use arrayvec::ArrayVec;
@@ -12,13 +15,27 @@ use link_wire::MessageBuffer;
 /// The rules that the length of a transfer breaks, in order.
 pub type BrokenTransferRules = ArrayVec<TransferRule, 3>;
 
-/// What the rules of a transfer's length need of its first segment.
+/// What the rules of a transfer's length, and of its bundle, need of its first segment.
 #[derive(Clone, Copy, Debug, PartialEq, Eq)]
 pub struct Opening {
     /// The length that the transfer announces.
     pub announced: Announced,
     /// Whether the segment is the only one of its transfer: it has START and END.
     pub single: bool,
+    /// Whether the segment has an extension item of a type other than Transfer Length.
+    pub has_other_item: bool,
+}
+
+/// Whether a segment with these flags has an extension item of a type other than Transfer Length.
+/// Without START, it has no items.
+fn has_other_item(message: &MessageBuffer, flags: u8) -> bool
+    ensures { result ≡ has_other_item (segment_items flags message.now.items).items }
+{
+    is_start(flags)
+        && message
+            .items
+            .iter()
+            .any(|item| item.kind != TRANSFER_LENGTH)
 }
 
 impl Opening {
@@ -39,6 +56,7 @@ impl Opening {
         Opening {
             announced: announcement(message, flags),
             single: is_start(flags) && is_end(flags),
+            has_other_item: has_other_item(message, flags),
         }
     }
 

@@ -1,7 +1,7 @@
 //! The rules that can be broken, with what a line says of each.
 
 use link_bundle_types::BundleFault;
-use link_rules_shared::{Level, NAME_MAX};
+use link_rules_shared::{Doubt, Level, NAME_MAX};
 use link_transfer::OrderFault;
 
 /// What is wrong with the order of an XFER_ACK or XFER_REFUSE (RFC 9174 sections 5.2.3 and 5.2.4).
@@ -69,7 +69,7 @@ pub enum MessageRule {
     /// A message of this type comes after a MSG_REJECT that ends the session (sections 5.1.2 and
     /// 8.5).
     AfterReject { kind: u8, level: Level },
-    /// A MSG_REJECT calls a known type unknown, or an unknown one known (section 5.1.2).
+    /// A MSG_REJECT calls a type from 01 to 07 unknown, or type 00 known (section 5.1.2).
     RejectKnown { reason: u8, header: u8 },
     /// A message of this type has a reason that is neither assigned nor for private use (sections
     /// 8.6, 8.7 and 8.8).
@@ -127,6 +127,7 @@ impl MessageRule {
             | MessageRule::AfterReject { level, .. } => *level,
             MessageRule::BeforeSession { .. }
             | MessageRule::Interleaved { .. }
+            | MessageRule::AckLength { .. }
             | MessageRule::Keepalive
             | MessageRule::KeepaliveInterval { .. }
             | MessageRule::ItemType { .. }
@@ -179,15 +180,18 @@ impl TransferRule {
         }
     }
 
-    /// How strictly the rule is meant.
+    /// How strictly the rule is meant. `doubt` is what an unknown part may have changed in the
+    /// bundle.
     #[tactic(auto, unfolding(crate::specs::TransferRules::transfer_level_of))]
-    pub fn level(&self) -> Level
-        ensures { result ≡ transfer_level_of self.now }
+    pub fn level(&self, doubt: Doubt) -> Level
+        ensures { result ≡ transfer_level_of doubt self.now }
     {
         match self {
-            TransferRule::LengthItem
-            | TransferRule::LengthDiffers { .. }
-            | TransferRule::Bundle { .. } => Level::Must,
+            TransferRule::LengthItem | TransferRule::LengthDiffers { .. } => Level::Must,
+            TransferRule::Bundle { .. } => match doubt {
+                Doubt::WholeBundle => Level::Should,
+                Doubt::Nothing | Doubt::BlockData => Level::Must,
+            },
             TransferRule::Unfinished { .. }
             | TransferRule::LengthOfOneSegment
             | TransferRule::NotRead { .. } => Level::Should,

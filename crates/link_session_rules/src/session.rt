@@ -5,11 +5,12 @@ ghost use Rattle.link_wire.specs.MessageBuffer.{message_of};
 ghost use Rattle.link_wire.specs.declared.message.Message.{Message};
 ghost use Rattle.link_session_rules.specs.Heads.{HeadWithOrder, viewed_head, messages_of, is_sess_init, is_of_transfer, is_keepalive, disables_keepalive, parameters_of};
 ghost use Rattle.link_session_rules.specs.Remembered.{next_since, session_of, keepalives_of};
-ghost use Rattle.link_session_rules.specs.Session.{order, order_level, changes_session, before_session, keepalive, keepalive_interval, type_after_sess_init, first_parameters, are_other};
+ghost use Rattle.link_session_rules.specs.Session.{order, order_level, changes_session, before_session, keepalive, keepalive_interval, type_after_sess_init, first_parameters, first_node, are_other};
 
 use crate::head::JudgedHeadView;
 use crate::rule::MessageRule;
 use link_rules_shared::Level;
+use link_tool_option_types::NodeId;
 use link_transfer::OrderFault;
 use link_wire::{Fields, MessageBuffer};
 
@@ -119,17 +120,39 @@ fn parameters_of(message: &MessageBuffer) -> Option<Parameters>
     }
 }
 
-/// The parameters of the first SESS_INIT, after one more message.
-#[tactic(auto, using(crate::proofs::Pushes::first_parameters_push))]
-#[inline(always)]
-pub(crate) fn parameters_after(
-    parameters: Option<Parameters>,
-    message: &MessageBuffer,
-) -> Option<Parameters>
-    ensures { (before : List Message) → parameters ≡ first_parameters before
-        → result ≡ first_parameters (before ++ message_of message.now ∷ []) }
+/// Copies a node ID.
+#[cold]
+#[inline(never)]
+fn copy_node(from: &NodeId, to: &mut NodeId)
+    ensures { to.new.items ≡ from.now.items }
 {
-    parameters.or(parameters_of(message))
+    // The copy has room for each byte, so this is never an error.
+    if let Ok(copied) = NodeId::try_from(from.as_slice()) {
+        *to = copied;
+    }
+}
+
+/// Keeps the parameters and the node ID of the next message, if it is the first SESS_INIT.
+#[tactic(auto, using(crate::proofs::Pushes::first_parameters_push, crate::proofs::Pushes::first_node_push))]
+#[inline(always)]
+pub(crate) fn keep_first(
+    parameters: &mut Option<Parameters>,
+    node: &mut NodeId,
+    message: &MessageBuffer,
+)
+    ensures parameters { (before : List Message) → parameters.old ≡ first_parameters before
+        → parameters.new ≡ first_parameters (before ++ message_of message.now ∷ []) }
+    ensures node { (before : List Message) → parameters.old ≡ first_parameters before
+        → node.old.items ≡ first_node before
+        → node.new.items ≡ first_node (before ++ message_of message.now ∷ []) }
+{
+    if parameters.is_some() {
+        return;
+    }
+    *parameters = parameters_of(message);
+    if parameters.is_some() {
+        copy_node(&message.node, node);
+    }
 }
 
 /// Whether a message is a KEEPALIVE.

@@ -22,13 +22,16 @@ impl BlockConsumer for BlockLines {
     ghost use Rattle.link_tool_blocks.specs.BlockLines.{block_lines};
     ghost use Rattle.link_tool_blocks.specs.LineLaws.{lines_grow, lines_same};
 
+    type Options = ();
+
     ghost says = { block_lines };
 
-    ghost knows = { λ lines content. Unit {0} };
+    ghost knows = { λ options lines content. Unit {0} };
 
     #[inline(always)]
     fn block<W: OutDevice, E: OutDevice>(
         &mut self,
+        _options: &(),
         number: u64,
         block: &BlockView<'_>,
         reader: &DataReader,
@@ -42,7 +45,7 @@ impl BlockConsumer for BlockLines {
 
     ghost grows = { lines_grow };
 
-    ghost steady = { λ number lines before more same.
+    ghost steady = { λ number options lines before more same.
         (lines_same number before more same, λ known. known) };
 }
 

@@ -102,11 +102,12 @@ impl BundleConsumer for BundleLister {
     #[inline(always)]
     fn run<W: OutDevice, E: OutDevice>(
         &mut self,
-        _options: &(),
+        options: &(),
         run: &RunView<'_, '_>,
         writers: &mut Writers<W, E>,
     ) -> Result<(), IoFault> {
         let written = tell_run(
+            options,
             run.number,
             run.before,
             run.bytes,

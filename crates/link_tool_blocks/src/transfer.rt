@@ -90,6 +90,7 @@ impl TransferBlocks {
         let before = self.judge.size;
         self.judge.size += piece.len() as u64;
         tell_piece(
+            &(),
             self.judge.id,
             before,
             piece,

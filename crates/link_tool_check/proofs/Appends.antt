@@ -1,9 +1,9 @@
 -- The lines of broken rules that follow one another.
-use Rattle.std.proofs.Common.{◌≡◌, ℕ, Bool, true, not, ◌&&◌, List, [], ◌∷◌, ◌++◌, append-nil, refl}
+use Rattle.std.proofs.Common.{◌≡◌, Bool, true, not, ◌&&◌, List, [], ◌∷◌, ◌++◌, append-nil, refl}
 use Rattle.std.proofs.{Math.Bool.and-true, lemmas.Grind.flat_map-append}
-use Rattle.std.proofs.lemmas.List.{map-append, Folds.list_all-append}
-use Rattle.link_report_broken_rules.specs.declared.{line.RuleText.RuleText, rule.BrokenRule.BrokenRule}
-use Rattle.link_tool_check.specs.Lines.{counts, line_of, lines_of, none_counts, at_offset}
+use Rattle.std.proofs.lemmas.List.Folds.{list_all-append}
+use Rattle.link_report_broken_rules.specs.declared.line.RuleText.{RuleText}
+use Rattle.link_tool_check.specs.Lines.{counts, line_of, lines_of, none_counts}
 
 pub lines_append : (must : Bool) (first second : List RuleText)
     → lines_of must (first ++ second) ≡ lines_of must first ++ lines_of must second
@@ -22,10 +22,6 @@ no_lines must = refl
 pub none_count : (must : Bool) → none_counts must [] ≡ true
 unfolding none_counts
 none_count must = refl
-
-pub at_append : (offset : ℕ) (first second : List BrokenRule)
-    → at_offset offset (first ++ second) ≡ at_offset offset first ++ at_offset offset second
-at_append offset first second = map-append _ first second
 
 pub one_line : (must : Bool) (broken : RuleText) → lines_of must (broken ∷ []) ≡ line_of must broken
 unfolding lines_of

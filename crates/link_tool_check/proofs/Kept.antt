@@ -16,7 +16,8 @@ use Rattle.link_run_judge.proofs.Effects.{Does, Strays, Passes, Begins, Continue
 use Rattle.link_session_rules.specs.Remembered.{IsMessageHistoryAt}
 use Rattle.link_report_broken_rules.specs.declared.line.RuleText.{RuleText}
 use Rattle.link_tool_check.specs.Checker.{IsCheckedTransferAtLatest, IsCheckedTransferAt, IsCheckerAt, closed_due, kept_of}
-use Rattle.link_tool_check.specs.Checking.{BegunTransfer, Kept, begun_by, broken_by, check_telling, checking, head_rules, judged, kept_with, none_kept, with_bytes}
+use Rattle.link_tool_check.specs.Checking.{BegunTransfer, Kept, begun_by, broken_by, check_telling, checking, head_rules, judged, kept_with, none_kept, sender_of, with_bytes}
+use Rattle.link_session_rules.specs.Heads.{HeadWithOrder}
 use Rattle.link_tool_check.specs.{Lines.{lines_of, none_counts}, Writing.WritesRules}
 use Rattle.link_tool_check.specs.declared.checker.Checker.{Checker}
 use Rattle.link_tool_option_types.specs.declared.check.CheckOptions.{CheckOptions}
@@ -33,6 +34,10 @@ begun_same head read none = rw none refl
 module _ (options : CheckOptions) (before : List WalkEvent) where
   abbrev pub was : Kept
   was = kept_of options before
+
+  -- the rules of the latest transfer, if it is closed after these heads
+  abbrev pub due : (whole : Bool) → List HeadWithOrder → Option BegunTransfer → List RuleText
+  due whole heads latest = closed_due whole options.own.items (sender_of heads) latest
 
   kept_then : (added : List WalkEvent)
       → kept_of options (before ++ added) ≡ kept_after (checking options) was added
@@ -65,7 +70,7 @@ module _ (options : CheckOptions) (before : List WalkEvent) where
         → now.good ≡ (kept_with options was event).good
         → IsMessageHistoryAt now.history (kept_with options was event).heads
         → (open_after_event (has_open before) event ≡ true
-        → IsCheckedTransferAtLatest now.latest (kept_with options was event).latest)
+        → IsCheckedTransferAtLatest options.own.items now.latest (kept_with options was event).latest)
         → IsCheckerAt options now (before ++ event ∷ [])
     known_one now size good history at_open = record {
       size = omega (arith, size_then before event);
@@ -97,7 +102,7 @@ module _ (options : CheckOptions) (before : List WalkEvent) where
       record {
         heads = kept.heads;
         latest = latest;
-        good = kept.good && none_counts options.must (closed_due whole latest);
+        good = kept.good && none_counts options.must (due whole kept.heads latest);
       }
 
   data_kept : (bytes : List ℕ) (whole : Bool) (kept : Kept)
@@ -108,7 +113,7 @@ module _ (options : CheckOptions) (before : List WalkEvent) where
       rw (data_kept bytes whole, good_same, with_more) refl
 
   data_said_from : (bytes : List ℕ) (whole : Bool) (kept : Kept)
-      → on_output (lines_of options.must (closed_due whole (option_map (with_bytes bytes) kept.latest)))
+      → on_output (lines_of options.must (due whole kept.heads (option_map (with_bytes bytes) kept.latest)))
       ≡ said_from (checking options) kept (data_ends bytes whole)
   data_said_from [] true kept = rw (with_none, then_none) refl
   data_said_from [] false kept = rw no_lines refl
@@ -118,15 +123,15 @@ module _ (options : CheckOptions) (before : List WalkEvent) where
 
   module _ (bytes : List ℕ) (whole : Bool) where
     pub data_said : on_output (lines_of options.must
-        (closed_due whole (option_map (with_bytes bytes) was.latest)))
+        (due whole was.heads (option_map (with_bytes bytes) was.latest)))
         ≡ said_from (checking options) was (data_ends bytes whole)
     data_said = data_said_from bytes whole was
 
     pub known_data : (now : Checker) (begun : BegunTransfer) → was.latest ≡ Some begun
         → now.latest.judge.size ≤ data_size before + length bytes
-        → now.good ≡ (was.good && none_counts options.must (closed_due whole (Some (with_bytes bytes begun))))
+        → now.good ≡ (was.good && none_counts options.must (due whole was.heads (Some (with_bytes bytes begun))))
         → IsMessageHistoryAt now.history was.heads
-        → IsCheckedTransferAt now.latest (with_bytes bytes begun)
+        → IsCheckedTransferAt options.own.items now.latest (with_bytes bytes begun)
         → IsCheckerAt options now (before ++ data_ends bytes whole)
     known_data now begun is size good history checks =
         let kept = kept_then (data_ends bytes whole) ∙ data_kept bytes whole was in
@@ -164,7 +169,7 @@ module _ (options : CheckOptions) (before : List WalkEvent) where
         → now.latest.judge.size ≤ data_size before + length bytes
         → now.good ≡ (was.good && none_counts options.must broken)
         → IsMessageHistoryAt now.history (was.heads ++ judged head ∷ [])
-        → IsCheckedTransferAt now.latest (with_bytes bytes begun)
+        → IsCheckedTransferAt options.own.items now.latest (with_bytes bytes begun)
         → IsCheckerAt options now (before ++ MessageHead head ∷ data_ends bytes false)
     known_inner now begun is size good history checks =
         let parts = append_assoc before (MessageHead head ∷ []) (data_ends bytes false) in
@@ -190,28 +195,29 @@ module _ (options : CheckOptions) (before : List WalkEvent) where
 -- ---- a head
 
 -- The latest transfer was read, also after a head, if the head begins it or it was open before.
-abbrev pub IsLatestRead : (now : CheckedTransfer) → (latest : Option BegunTransfer) → (begins opened : Bool)
-    → Type 0
-IsLatestRead now latest begins opened = (begins ≡ true) ⊎ (opened ≡ true) → IsCheckedTransferAtLatest now latest
+abbrev pub IsLatestRead : (own : List ℕ) → (now : CheckedTransfer)
+    → (latest : Option BegunTransfer) → (begins opened : Bool) → Type 0
+IsLatestRead own now latest begins opened =
+    (begins ≡ true) ⊎ (opened ≡ true) → IsCheckedTransferAtLatest own now latest
 
 module _ (before : List WalkEvent) (head : Head) (comes : HeadComes before head) where
-  pub read_after : (read : Option BegunTransfer) (old now : CheckedTransfer)
-      → (has_open before ≡ true → IsCheckedTransferAtLatest old read)
+  pub read_after : (own : List ℕ) (read : Option BegunTransfer) (old now : CheckedTransfer)
+      → (has_open before ≡ true → IsCheckedTransferAtLatest own old read)
       → ((first : SegmentHead) → is_beginning head.turn ≡ true
       → head.message ≡ message.Segment first → is_start first.flags ≡ true
-      → IsCheckedTransferAt now (record { offset = head.offset; first = first; content = [] }))
+      → IsCheckedTransferAt own now (record { offset = head.offset; first = first; content = [] }))
       → (is_beginning head.turn ≡ false → now ≡ old)
-      → IsLatestRead now (begun_by head read) (is_beginning head.turn) (has_open before)
-  read_after read old now at begins same = by_effect (comes_does before head comes)
+      → IsLatestRead own now (begun_by head read) (is_beginning head.turn) (has_open before)
+  read_after own read old now at begins same = by_effect (comes_does before head comes)
     where
       passes : is_beginning head.turn ≡ false
-          → IsLatestRead now (begun_by head read) (is_beginning head.turn) (has_open before)
+          → IsLatestRead own now (begun_by head read) (is_beginning head.turn) (has_open before)
       passes none = rw (begun_same head read none, same none) (λ some. at (⊎_elim
           (λ begins. absurd (cc (sym none ∙ begins)))
           (λ opened. opened) some))
 
       by_effect : Does head.turn head.message (has_open before)
-          → IsLatestRead now (begun_by head read) (is_beginning head.turn) (has_open before)
+          → IsLatestRead own now (begun_by head read) (is_beginning head.turn) (has_open before)
       by_effect (Strays is) = passes (ap is_beginning is)
       by_effect (Passes is other) = passes (ap is_beginning is)
       by_effect (Continues first is starts does also) = passes (ap is_beginning does)

@@ -10,15 +10,16 @@ use Rattle.link_run.specs.Run.{Texts, no_texts}
 use Rattle.link_run_over_bundle_files.specs.Telling.{WritesRestOfTexts}
 use Rattle.link_run_over_bundle_files.proofs.Told.{on_ok_by}
 use Rattle.link_run_judge.proofs.Counts.{on_ok}
+use Rattle.link_rules_shared.specs.declared.doubt.Doubt.{Doubt}
 use Rattle.link_report_broken_rules.specs.declared.{line.RuleText.RuleText, rule.BrokenRule.BrokenRule}
-use Rattle.link_tool_check.specs.Lines.{at_offset, counts, line_of, lines_of}
+use Rattle.link_tool_check.specs.Lines.{at_offset, counts, line_of, lines_of, text_of}
 use Rattle.link_tool_check.specs.Writing.{WritesRules}
 use Rattle.link_tool_check.proofs.Appends.{counts_append, lines_append, no_lines, none_count, one_counts, one_line}
 
 -- the first of some rules that are broken at an offset
-abbrev first_rules : {A : Type 0} → (A → BrokenRule) → (offset : ℕ) → List A → (count : ℕ)
-    → List RuleText
-first_rules f offset rules count = at_offset offset (map f (take count rules))
+abbrev first_rules : {A : Type 0} → (A → BrokenRule) → (offset : ℕ) → Doubt → List A
+    → (count : ℕ) → List RuleText
+first_rules f offset doubt rules count = at_offset offset doubt (map f (take count rules))
 
 module _ {W E : Type 0} {out_look : W → Output} {report_look : E → Output} {must : Bool} where
   pub none_written : {writers : Writers W E} {good : Bool} {done : Unit {0}}
@@ -79,28 +80,28 @@ module _ {W E : Type 0} {out_look : W → Output} {report_look : E → Output} {
 
   -- ---- the rules of a list, one after another
 
-  module _ {A : Type 0} (f : A → BrokenRule) (offset : ℕ) (rules : List A) where
+  module _ {A : Type 0} (f : A → BrokenRule) (offset : ℕ) (doubt : Doubt) (rules : List A) where
     -- the next rule was written
     pub next_written : {old mid new : Writers W E} {was half good : Bool}
         {result : Result (Unit {0}) IoFault} (index : ℕ) (rule : A) → index < length rules
         → rule ≡ slice_index_or rules index rule
         → WritesRules out_look report_look must old mid was half (Ok tt)
-        (first_rules f offset rules index)
+        (first_rules f offset doubt rules index)
         → AfterWrite out_look report_look mid new
-        (on_output (line_of must (record { offset = offset; rule = f rule }))) result
-        → good ≡ (half && not (counts must (record { offset = offset; rule = f rule })))
+        (on_output (line_of must (text_of offset doubt (f rule)))) result
+        → good ≡ (half && not (counts must (text_of offset doubt (f rule))))
         → WritesRules out_look report_look must old new was good result
-        (first_rules f offset rules (index + 1))
+        (first_rules f offset doubt rules (index + 1))
     next_written index rule less is before wrote counted =
         rw (map_more f rules index rule less, ← is, map-append)
-        (then_written (first_rules f offset rules index) _ before (one_written _ wrote counted))
+        (then_written (first_rules f offset doubt rules index) _ before (one_written _ wrote counted))
 
     -- a writer failed within the first of the rules
     pub lost_within : {old new : Writers W E} {was good other : Bool} {fault : IoFault} (count : ℕ)
         → WritesRules out_look report_look must old new was good (Err fault)
-        (first_rules f offset rules count)
+        (first_rules f offset doubt rules count)
         → WritesRules out_look report_look must old new was other (Err fault)
-        (at_offset offset (map f rules))
+        (at_offset offset doubt (map f rules))
     lost_within count first =
         rw (← take-append-drop count rules, map-append, map-append)
-        (part_written (first_rules f offset rules count) _ first)
+        (part_written (first_rules f offset doubt rules count) _ first)

@@ -8,8 +8,8 @@ use Rattle.link_rules_shared.specs.Prefix.{HasFirstFourBytes}
 use Rattle.link_bundle_rules.specs.History.{bundle_of}
 use Rattle.link_bundle_rules.specs.BundleFacts.{BundleFacts}
 use Rattle.link_bundle_rules.specs.declared.history.BundleHistory.{BundleHistory}
-use Rattle.link_tool_check.specs.BundleRules.{read_bundle}
-use Rattle.link_tool_check.specs.declared.bundle.BundleReader.{BundleReader}
+use Rattle.link_tool_check.specs.BundleRules.{BundleOrigin, read_bundle}
+use Rattle.link_tool_check.specs.declared.bundle.{BundleReader.BundleReader, Origin.Origin}
 
 -- The history has exactly the blocks of this bundle. The content has at least as many whole blocks,
 -- and they set the same flags.
@@ -31,13 +31,22 @@ IsBundleHistoryOnceBegun true history None content = ⊥
 IsBundleHistoryOnceBegun true history (Some bundle) content =
     IsBundleHistoryAt history bundle content
 
--- exactly this content of a bundle was read
-pub record IsBundleReaderAt (now : BundleReader) (content : List ℕ) : Type 0 where
+-- exactly this content of a bundle was read, with the security blocks of `own`
+pub record IsBundleReaderAt (own : List ℕ) (now : BundleReader) (content : List ℕ) : Type 0 where
   pub reading : IsDataReaderAt now.data content
-  pub history : IsBundleHistoryOnceBegun now.blocks.begun now.blocks.history (read_bundle content)
+  pub history : IsBundleHistoryOnceBegun now.blocks.begun now.blocks.history (read_bundle own content)
       content
   pub walked : HasWalked now.heads content
   pub begins : HasFirstFourBytes now.prefix content
+
+-- how the bundle of a view came
+abbrev pub viewed_origin : Origin → BundleOrigin
+viewed_origin origin = record {
+  offset = origin.offset;
+  place = origin.place;
+  sender = origin.sender.now;
+  has_other_item = origin.has_other_item;
+}
 
 -- the number of bytes read of the latest block's data
 abbrev pub data_size : BundleReader → ℕ

@@ -11,15 +11,18 @@ use Rattle.link_run.specs.Writers.{on_output}
 use Rattle.link_run_over_transfers.specs.Saying.{StatefulTool, telling_of}
 use Rattle.link_run_over_transfers.specs.Walk.{Head, WalkEvent, ContactHeader, MessageHead, Data, Whole, LeftOpen, closes, is_beginning, Telling, told_of}
 use Rattle.link_session_rules.specs.Flags.{contact_flags}
-use Rattle.link_session_rules.specs.Heads.{HeadWithOrder, segment_of}
+use Rattle.link_session_rules.specs.Heads.{HeadWithOrder, messages_of, segment_of}
+use Rattle.link_session_rules.specs.Session.{first_node}
 use Rattle.link_session_rules.specs.MessageRules.{broken_rules}
 use Rattle.link_session_rules.specs.TransferData.{data_rule}
-use Rattle.link_session_rules.specs.TransferRules.{broken_transfer_rules}
+use Rattle.link_session_rules.specs.TransferRules.{broken_transfer_rules, has_other_item}
+use Rattle.link_session_rules.specs.declared.rule.TransferRule.{TransferRule}
 use Rattle.link_session_rules.specs.declared.rule.TransferRule.TheVariants.{Unfinished}
-use Rattle.link_report_broken_rules.specs.declared.{line.RuleText.RuleText, rule.BrokenRule.BrokenRule}
-use Rattle.link_report_broken_rules.specs.declared.rule.BrokenRule.TheVariants.{Message, Transfer, Bundle}
+use Rattle.link_rules_shared.specs.declared.doubt.{Doubt.Doubt, Doubt.TheVariants.{Nothing, WholeBundle}}
+use Rattle.link_report_broken_rules.specs.declared.line.RuleText.{RuleText}
+use Rattle.link_report_broken_rules.specs.declared.rule.BrokenRule.TheVariants.{Message, Transfer}
 use Rattle.link_report_broken_rules.specs.declared.rule.BundlePlace.TheVariants as place
-use Rattle.link_tool_check.specs.BundleRules.{bundle_rules}
+use Rattle.link_tool_check.specs.BundleRules.{BundleOrigin, bundle_texts}
 use Rattle.link_tool_check.specs.Lines.{lines_of, none_counts, at_offset}
 use Rattle.link_tool_option_types.specs.declared.check.CheckOptions.{CheckOptions}
 
@@ -36,31 +39,47 @@ abbrev pub optional : {A : Type 0} → Option A → List A
 optional None = []
 optional (Some value) = value ∷ []
 
+-- how the bundle of a transfer came from a sender with this node ID
+abbrev pub origin_of : (sender : List ℕ) → BegunTransfer → BundleOrigin
+origin_of sender begun = record {
+  offset = begun.offset;
+  place = place.Transfer begun.first.id;
+  sender = sender;
+  has_other_item = has_other_item begun.first.items.items;
+}
+
+-- what an extension item of an unknown type may have changed in a transfer
+abbrev pub item_doubt : BegunTransfer → Doubt
+item_doubt begun = if has_other_item begun.first.items.items then WholeBundle else Nothing
+
+-- these rules, which a transfer breaks, at the offset of its first segment
+abbrev pub transfer_texts : BegunTransfer → List TransferRule → List RuleText
+transfer_texts begun rules =
+    at_offset begun.offset (item_doubt begun) (map (λ rule. Transfer begun.first.id rule) rules)
+
 -- the rules that the data of a transfer breaks, by the verdict on it
-abbrev pub data_rules : (id : ℕ) → (content : List ℕ) → Result BundleInfo (BundleFault × ℕ)
-    → List BrokenRule
-data_rules id content (Ok info) =
-    map (λ rule. Bundle (place.Transfer id) rule) (bundle_rules content info)
-data_rules id content (Err fault) =
-    map (λ rule. Transfer id rule) (optional (data_rule content (Err fault)))
+abbrev pub data_texts : (own sender : List ℕ) → BegunTransfer
+    → Result BundleInfo (BundleFault × ℕ) → List RuleText
+data_texts own sender begun (Ok info) =
+    bundle_texts own (origin_of sender begun) begun.content info
+data_texts own sender begun (Err fault) =
+    transfer_texts begun (optional (data_rule begun.content (Err fault)))
 
 -- The rules that a closed transfer breaks: those of its length, and then those of its data. A wrong
--- length hides none of the others.
-abbrev pub closed_rules : BegunTransfer → List BrokenRule
-closed_rules begun =
-    map (λ rule. Transfer begun.first.id rule)
-    (broken_transfer_rules begun.first (length begun.content))
-    ++ data_rules begun.first.id begun.content (verdict begun.content)
+-- length hides none of the others. `sender` is the node ID of the sender, as far as it came.
+abbrev pub closed_texts : (own sender : List ℕ) → BegunTransfer → List RuleText
+closed_texts own sender begun =
+    transfer_texts begun (broken_transfer_rules begun.first (length begun.content))
+    ++ data_texts own sender begun (verdict begun.content)
 
 -- A transfer that is open when the stream ends between two messages breaks one rule.
-abbrev pub open_rules : BegunTransfer → List BrokenRule
-open_rules begun = Transfer begun.first.id (Unfinished (length begun.content)) ∷ []
+abbrev pub open_texts : BegunTransfer → List RuleText
+open_texts begun = transfer_texts begun (Unfinished (length begun.content) ∷ [])
 
--- what `rules` says that the latest transfer breaks, at the offset of its first segment; before the
--- first transfer, nothing
-abbrev pub rules_at : (BegunTransfer → List BrokenRule) → Option BegunTransfer → List RuleText
-rules_at rules None = []
-rules_at rules (Some begun) = at_offset begun.offset (rules begun)
+-- what `texts` says that the latest transfer breaks; before the first transfer, nothing
+abbrev pub texts_at : (BegunTransfer → List RuleText) → Option BegunTransfer → List RuleText
+texts_at texts None = []
+texts_at texts (Some begun) = texts begun
 
 -- ---- events
 
@@ -95,21 +114,32 @@ with_bytes bytes begun = record begun { content = begun.content ++ bytes }
 -- the rules that a head breaks after these heads
 abbrev pub head_rules : CheckOptions → (before : List HeadWithOrder) → Head → List RuleText
 head_rules options before head =
-    at_offset head.offset
+    at_offset head.offset Nothing
     (map (λ rule. Message rule) (broken_rules options.peer before (judged head)))
+
+-- the node ID of the first SESS_INIT among these heads; empty without one
+abbrev pub sender_of : List HeadWithOrder → List ℕ
+sender_of heads = first_node (messages_of heads)
+
+-- the rules that the latest transfer breaks if it is closed after these heads
+abbrev pub closed_after : CheckOptions → List HeadWithOrder → Option BegunTransfer → List RuleText
+closed_after options heads latest =
+    texts_at (closed_texts options.own.items (sender_of heads)) latest
 
 -- The rules that are broken with one more event. A head may break rules of messages. If its segment
 -- is the last of a transfer and has no data, the head also closes the transfer. Otherwise `Whole`
 -- does. A transfer breaks rules when it is closed, or if it is left open at the end.
 abbrev pub broken_by : CheckOptions → Kept → WalkEvent → List RuleText
 broken_by options kept (ContactHeader contact) =
-    at_offset 0 (map (λ rule. Message rule) (optional (contact_flags contact)))
+    at_offset 0 Nothing (map (λ rule. Message rule) (optional (contact_flags contact)))
 broken_by options kept (MessageHead head) =
     head_rules options kept.heads head
-    ++ (if closes head then rules_at closed_rules (begun_by head kept.latest) else [])
+    ++ (if closes head
+    then closed_after options (kept.heads ++ judged head ∷ []) (begun_by head kept.latest)
+    else [])
 broken_by options kept (Data byte) = []
-broken_by options kept Whole = rules_at closed_rules kept.latest
-broken_by options kept LeftOpen = rules_at open_rules kept.latest
+broken_by options kept Whole = closed_after options kept.heads kept.latest
+broken_by options kept LeftOpen = texts_at open_texts kept.latest
 
 -- the heads after one more event; only a message adds one, at the end
 abbrev pub heads_with : List HeadWithOrder → WalkEvent → List HeadWithOrder

@@ -10,10 +10,10 @@ use Rattle.link_bundle_rules.specs.declared.history.BundleHistory.{BundleHistory
 use Rattle.link_tool_check.specs.BundleReader.{IsBundleHistoryOnceBegun}
 use Rattle.link_tool_check.specs.BundleRules.{read_bundle, with_next}
 
-module _ (content more : List ℕ) where
+module _ (own content more : List ℕ) where
   -- a whole block stays as it is
   next_grown : (before : Option BundleFacts) (block : Block) → LiesWithin (length content) block
-      → with_next (content ++ more) before block ≡ with_next content before block
+      → with_next own (content ++ more) before block ≡ with_next own content before block
   next_grown before (PrimaryOf primary check end) within = refl
   next_grown before (CanonicalOf block) within =
       simp (data_grown content more block within.0)
@@ -21,21 +21,21 @@ module _ (content more : List ℕ) where
   -- whole blocks stay as they are
   all_grown : (before : Option BundleFacts) (blocks : List Block)
       → All (LiesWithin (length content)) blocks
-      → fold (with_next (content ++ more)) before blocks ≡ fold (with_next content) before blocks
+      → fold (with_next own (content ++ more)) before blocks ≡ fold (with_next own content) before blocks
   all_grown before [] within = refl
   all_grown before (block ∷ rest) within =
       rw (next_grown before block (all_first (LiesWithin (length content)) block rest within))
-      (all_grown (with_next content before block) rest
+      (all_grown (with_next own content before block) rest
       (all_rest (LiesWithin (length content)) block rest within))
 
   -- more bytes add the blocks that they complete
   pub read_more : (new : List Block) → blocks_in (content ++ more) ≡ blocks_in content ++ new
-      → read_bundle (content ++ more) ≡ fold (with_next (content ++ more)) (read_bundle content) new
+      → read_bundle own (content ++ more) ≡ fold (with_next own (content ++ more)) (read_bundle own content) new
   unfolding read_bundle
   read_more new grown =
       rw (
         grown,
-        fold-append (with_next (content ++ more)) None (blocks_in content) new,
+        fold-append (with_next own (content ++ more)) None (blocks_in content) new,
         all_grown None (blocks_in content) (BlocksWithin-holds content),
       ) refl
 
@@ -58,8 +58,8 @@ module _ (content more : List ℕ) where
   -- `more` completes no block, so the history is still one of the bundle that was read
   pub history_same : (begins : Bool) (history : BundleHistory)
       → blocks_in (content ++ more) ≡ blocks_in content
-      → IsBundleHistoryOnceBegun begins history (read_bundle content) content
-      → IsBundleHistoryOnceBegun begins history (read_bundle (content ++ more)) (content ++ more)
+      → IsBundleHistoryOnceBegun begins history (read_bundle own content) content
+      → IsBundleHistoryOnceBegun begins history (read_bundle own (content ++ more)) (content ++ more)
   history_same begins history same was =
       rw (read_more [] (same ∙ sym (append-nil (blocks_in content))))
-      (same_by begins history (read_bundle content) same was)
+      (same_by begins history (read_bundle own content) same was)

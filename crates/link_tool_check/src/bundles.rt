@@ -6,13 +6,15 @@ ghost use Rattle.link_run.specs.NewRun.{IsNewRun};
 ghost use Rattle.link_run.specs.WholeRun.{AfterRun};
 ghost use Rattle.link_tool_check.specs.BundleReader.{data_size};
 ghost use Rattle.link_tool_check.specs.Bundles.{bundle_check_tool};
+ghost use Rattle.link_tool_option_types.specs.declared.check.BundleCheckOptions.{BundleCheckOptions};
 
-use crate::bundle::BundleReader;
+use crate::bundle::{BundleReader, Origin};
 use link_report_broken_rules::BundlePlace;
 use link_run::{Run, RunEnd, Writers};
 use link_run_over_bundle_files::{
     BundleConsumer, BundleWalkRun, RunView, WholeView, bundle_walk_run,
 };
+use link_tool_option_types::BundleCheckOptions;
 use link_wire::{InDevice, IoFault, OutDevice};
 
 /// Judges one bundle after another.
@@ -33,9 +35,9 @@ impl BundleChecker {
     ghost use Rattle.link_tool_check.specs.BundleChecker.{IsBundleCheckerAt, with_end};
     ghost use Rattle.link_tool_check.specs.Bundles.{bundle_check_telling};
 
-    /// Makes a checker for the first bundle. The contract holds for both values of `must`.
+    /// Makes a checker for the first bundle. The contract holds for any options.
     pub fn new() -> BundleChecker
-        ensures knows { (must : _) → IsBundleCheckerAt must result none_yet }
+        ensures knows { (options : BundleCheckOptions) → IsBundleCheckerAt options result none_yet }
         ensures read { data_size result.bundle ≡ 0 }
     {
         BundleChecker {
@@ -50,26 +52,31 @@ impl BundleChecker {
     #[inline(never)]
     fn end_bundle<W: OutDevice, E: OutDevice>(
         &mut self,
-        must: bool,
+        options: &BundleCheckOptions,
         number: u64,
         whole: WholeView<'_>,
         writers: &mut Writers<W, E>,
     ) -> Result<(), IoFault>
-        ensures gives { (now : SoFar) → IsBundleCheckerAt must self.old now
+        ensures gives { (now : SoFar) → IsBundleCheckerAt options.now self.old now
             → size_of now.bundles + length now.begun < 2 ^ 63
             → whole.entry.length ≡ length now.begun → number ≡ length now.bundles
-            → WritesRestOfTexts W.state E.state ((bundle_check_telling must).texts now)
-            ((bundle_check_telling must).texts (with_end now (viewed_info whole.entry.info)))
-            (IsBundleCheckerAt must self.new (with_end now (viewed_info whole.entry.info)))
+            → WritesRestOfTexts W.state E.state ((bundle_check_telling options.now).texts now)
+            ((bundle_check_telling options.now).texts (with_end now (viewed_info whole.entry.info)))
+            (IsBundleCheckerAt options.now self.new (with_end now (viewed_info whole.entry.info)))
             writers.old writers.new result }
         ensures read { data_size self.new.bundle ≡ 0 }
     {
-        let place = BundlePlace::Input(number);
+        let origin = Origin {
+            offset: self.offset,
+            place: BundlePlace::Input(number),
+            sender: &[],
+            has_other_item: false,
+        };
         let written = self.bundle.write_rules(
-            must,
-            self.offset,
-            place,
-            whole.info.payload,
+            options.must,
+            options.own.as_slice(),
+            &origin,
+            &whole.info,
             writers,
             &mut self.good,
         );
@@ -84,8 +91,7 @@ impl BundleConsumer for BundleChecker {
     ghost use Rattle.link_tool_check.specs.BundleChecker.{IsBundleCheckerAt};
     ghost use Rattle.link_tool_check.specs.Bundles.{bundle_check_telling};
 
-    /// Whether only rules of level `must` have a line, and count.
-    type Options = bool;
+    type Options = BundleCheckOptions;
 
     ghost telling = { bundle_check_telling };
 
@@ -105,7 +111,7 @@ impl BundleConsumer for BundleChecker {
     }
 
     #[inline(always)]
-    fn limit(_must: &bool) -> u64 {
+    fn limit(_options: &BundleCheckOptions) -> u64 {
         u64::MAX
     }
 
@@ -116,7 +122,7 @@ impl BundleConsumer for BundleChecker {
 
     fn begin<W: OutDevice, E: OutDevice>(
         &mut self,
-        _must: &bool,
+        _options: &BundleCheckOptions,
         _writers: &mut Writers<W, E>,
     ) -> Result<(), IoFault> {
         Ok(())
@@ -125,16 +131,16 @@ impl BundleConsumer for BundleChecker {
     #[inline(always)]
     fn run<W: OutDevice, E: OutDevice>(
         &mut self,
-        must: &bool,
+        options: &BundleCheckOptions,
         run: &RunView<'_, '_>,
         writers: &mut Writers<W, E>,
     ) -> Result<(), IoFault> {
-        let written = self.bundle.take_run(run, writers);
+        let written = self.bundle.take_run(&options.own, run, writers);
         let Some(whole) = run.whole else {
             return written;
         };
         match written {
-            Ok(()) => self.end_bundle(*must, run.number, whole, writers),
+            Ok(()) => self.end_bundle(options, run.number, whole, writers),
             Err(fault) => Err(fault),
         }
     }
@@ -142,7 +148,7 @@ impl BundleConsumer for BundleChecker {
     /// Writes nothing, since only a whole bundle has lines.
     fn stop<W: OutDevice, E: OutDevice>(
         &mut self,
-        _must: &bool,
+        _options: &BundleCheckOptions,
         _number: u64,
         _bytes: &[u8],
         _writers: &mut Writers<W, E>,
@@ -152,14 +158,14 @@ impl BundleConsumer for BundleChecker {
 
     fn end<W: OutDevice, E: OutDevice>(
         &mut self,
-        _must: &bool,
+        _options: &BundleCheckOptions,
         _writers: &mut Writers<W, E>,
     ) -> Result<(), IoFault> {
         Ok(())
     }
 
     #[inline(always)]
-    fn is_good(&self, _must: &bool) -> bool {
+    fn is_good(&self, _options: &BundleCheckOptions) -> bool {
         self.good
     }
 }
@@ -169,37 +175,37 @@ pub type BundleCheckRun<R, W, E> = BundleWalkRun<R, W, E, BundleChecker>;
 
 /// Makes a run of `check --bundles` that has read and written nothing.
 pub fn bundle_check_run<R: InDevice, W: OutDevice, E: OutDevice>(
-    must: bool,
+    options: BundleCheckOptions,
     reader: R,
     output: W,
     report: E,
 ) -> BundleCheckRun<R, W, E>
     requires sound { NoneFailed (looks R.state W.state E.state) (devices reader output report) }
-    ensures { IsNewRun ⟦<BundleCheckRun<R, W, E> as Run<R, W, E>>⟧ (bundle_check_tool must)
+    ensures { IsNewRun ⟦<BundleCheckRun<R, W, E> as Run<R, W, E>>⟧ (bundle_check_tool options)
         (devices reader output report) result }
 {
-    bundle_walk_run(must, BundleChecker::new(), reader, output, report)
+    bundle_walk_run(options, BundleChecker::new(), reader, output, report)
 }
 
 /// Judges by which rules the bundles of an input were made, one after another, to the end of the
 /// run.
 ///
-/// The output has a line for each rule that a bundle breaks, once the bundle is whole. If `must` is
-/// set, only rules of that level have lines. The run stops at the first byte that shows a fault of
-/// a bundle. Then the report has the line of the fault, and the status is 3. Otherwise the report
-/// is empty, and the status is 1 if the output has a line, and else 0.
+/// The output has a line for each rule that a bundle breaks, once the bundle is whole.
+/// [`BundleCheckOptions`] says which rules have lines. The run stops at the first byte that shows a
+/// fault of a bundle. Then the report has the line of the fault, and the status is 3. Otherwise the
+/// report is empty, and the status is 1 if the output has a line, and else 0.
 ///
 /// The answer is an error if a device failed, or the input has more than 2^63 - 1 bytes.
 #[inline(never)]
 pub fn bundle_check<R: InDevice, W: OutDevice, E: OutDevice>(
-    must: bool,
+    options: BundleCheckOptions,
     reader: R,
     output: W,
     report: E,
 ) -> RunEnd<R, W, E>
     requires sound { NoneFailed (looks R.state W.state E.state) (devices reader output report) }
-    ensures { AfterRun (looks R.state W.state E.state) (bundle_check_tool must)
+    ensures { AfterRun (looks R.state W.state E.state) (bundle_check_tool options)
         (devices reader output report) result }
 {
-    bundle_check_run(must, reader, output, report).run()
+    bundle_check_run(options, reader, output, report).run()
 }

@@ -7,6 +7,7 @@ ghost use Rattle.link_session_rules.specs.Heads.{HeadWithOrder, viewed_head};
 ghost use Rattle.link_session_rules.specs.MessageRules.{broken_rules};
 ghost use Rattle.link_session_rules.specs.Remembered.{IsMessageHistoryAt};
 ghost use Rattle.link_report_broken_rules.specs.declared.rule.BrokenRule.TheVariants.{Message};
+ghost use Rattle.link_rules_shared.specs.declared.doubt.Doubt.TheVariants.{Nothing};
 ghost use Rattle.link_run.specs.Run.{devices, looks, NoneFailed};
 ghost use Rattle.link_run.specs.NewRun.{IsNewRun};
 ghost use Rattle.link_run.specs.WholeRun.{AfterRun};
@@ -19,6 +20,7 @@ ghost use Rattle.link_tool_option_types.specs.declared.check.CheckOptions.{Check
 
 use crate::lines::write_rules;
 use crate::transfer::CheckedTransfer;
+use link_rules_shared::Doubt;
 use link_run::{Run, RunEnd, Writers};
 use link_run_over_transfers::{Consumer, EventView, HeadView, Manner, WalkRun, walk_run};
 use link_session_rules::{JudgedHeadView, MessageHistory, contact_flags};
@@ -82,8 +84,9 @@ impl Consumer for Checker {
                     return Err(fault);
                 }
                 close(
-                    options.must,
+                    options,
                     head.closes(),
+                    self.history.node(),
                     &self.latest,
                     writers,
                     &mut self.good,
@@ -92,7 +95,7 @@ impl Consumer for Checker {
             // The data is taken before the head is judged. This does not show, since taking data
             // writes nothing.
             EventView::Inner { head, bytes } => {
-                if let Err(fault) = self.latest.take(bytes, writers) {
+                if let Err(fault) = self.latest.take(&options.own, bytes, writers) {
                     return Err(fault);
                 }
                 let length = bytes.len() as u64;
@@ -100,10 +103,18 @@ impl Consumer for Checker {
                 judge_inner(options, &head, length, history, writers, &mut self.good)
             }
             EventView::Data { bytes, whole } => {
-                if let Err(fault) = self.latest.take(bytes, writers) {
+                if let Err(fault) = self.latest.take(&options.own, bytes, writers) {
                     return Err(fault);
                 }
-                close(options.must, whole, &self.latest, writers, &mut self.good)
+                let sender = self.history.node();
+                close(
+                    options,
+                    whole,
+                    sender,
+                    &self.latest,
+                    writers,
+                    &mut self.good,
+                )
             }
             EventView::LeftOpen => {
                 self.latest
@@ -128,10 +139,11 @@ fn write_contact<W: OutDevice, E: OutDevice>(
     good: &mut bool,
 ) -> Result<(), IoFault>
     ensures { WritesRules W.state E.state must writers.old writers.new good.old good.new result
-        (at_offset 0 (map (λ rule. Message rule) (optional (contact_flags contact.now)))) }
+        (at_offset 0 Nothing (map (λ rule. Message rule)
+        (optional (contact_flags contact.now)))) }
 {
     match contact_flags(contact) {
-        Some(rule) => write_rules(must, 0, (), &[rule], writers, good),
+        Some(rule) => write_rules(must, 0, Doubt::Nothing, (), &[rule], writers, good),
         None => Ok(()),
     }
 }
@@ -228,7 +240,7 @@ fn write_head<W: OutDevice, E: OutDevice>(
     requires { IfSegmentItemsHaveTotals head.now.message.now }
     ensures { (before : List HeadWithOrder) → IsMessageHistoryAt history.now before
         → WritesRules W.state E.state options.now.must writers.old writers.new good.old good.new
-        result (at_offset offset (map (λ rule. Message rule)
+        result (at_offset offset Nothing (map (λ rule. Message rule)
         (broken_rules options.now.peer before (viewed_head head.now)))) }
 {
     if history.keeps_rules(&options.peer, head) {
@@ -250,31 +262,41 @@ fn write_broken<W: OutDevice, E: OutDevice>(
     requires { IfSegmentItemsHaveTotals head.now.message.now }
     ensures { (before : List HeadWithOrder) → IsMessageHistoryAt history.now before
         → WritesRules W.state E.state options.now.must writers.old writers.new good.old good.new
-        result (at_offset offset (map (λ rule. Message rule)
+        result (at_offset offset Nothing (map (λ rule. Message rule)
         (broken_rules options.now.peer before (viewed_head head.now)))) }
 {
     let rules = history.rules(&options.peer, head);
-    write_rules(options.must, offset, (), rules.as_slice(), writers, good)
+    let rules = rules.as_slice();
+    write_rules(
+        options.must,
+        offset,
+        Doubt::Nothing,
+        (),
+        rules,
+        writers,
+        good,
+    )
 }
 
 /// If the latest transfer is closed now, writes the lines of the rules that it breaks.
 ///
-/// `due` is whether it is closed now.
+/// `due` is whether it is closed now. `sender` is the node ID of the sender, or empty.
 #[inline(always)]
 fn close<W: OutDevice, E: OutDevice>(
-    must: bool,
+    options: &CheckOptions,
     due: bool,
+    sender: &[u8],
     latest: &CheckedTransfer,
     writers: &mut Writers<W, E>,
     good: &mut bool,
 ) -> Result<(), IoFault>
     ensures { (begun : Option BegunTransfer)
-        → (due ≡ true → IsCheckedTransferAtLatest latest.now begun)
-        → WritesRules W.state E.state must writers.old writers.new good.old good.new result
-        (closed_due due begun) }
+        → (due ≡ true → IsCheckedTransferAtLatest options.now.own.items latest.now begun)
+        → WritesRules W.state E.state options.now.must writers.old writers.new good.old good.new
+        result (closed_due due options.now.own.items sender.now begun) }
 {
     if due {
-        latest.write_closed(must, writers, good)
+        latest.write_closed(options.must, options.own.as_slice(), sender, writers, good)
     } else {
         Ok(())
     }

@@ -6,7 +6,8 @@
 //!
 //! ```ignore
 //! let peer = PeerLimits { segment: None, transfer: None };
-//! let end = check(CheckOptions { must: false, peer }, reader, output, report);
+//! let options = CheckOptions { must: false, own: NodeId::new(), peer };
+//! let end = check(options, reader, output, report);
 //! ```
 //!
 //! [`bundle_check`] and [`bundle_check_run`] do the same for an input that has one bundle after
@@ -21,4 +22,4 @@ mod transfer;
 
 pub use bundles::{BundleCheckRun, BundleChecker, bundle_check, bundle_check_run};
 pub use checker::{CheckRun, Checker, check, check_run};
-pub use link_tool_option_types::{CheckOptions, PeerLimits};
+pub use link_tool_option_types::{BundleCheckOptions, CheckOptions, NodeId, PeerLimits};

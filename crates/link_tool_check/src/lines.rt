@@ -3,12 +3,12 @@
 ghost use Rattle.std.specs.Prelude.{◌≡◌, ◌&&◌, not, map};
 ghost use Rattle.link_run.specs.Writers.{AfterWrite, on_output};
 ghost use Rattle.link_report_broken_rules.specs.declared.rule.BrokenRule.{BrokenRule};
-ghost use Rattle.link_tool_check.specs.Lines.{counts, at_offset, line_of};
+ghost use Rattle.link_tool_check.specs.Lines.{counts, at_offset, line_of, text_of};
 ghost use Rattle.link_tool_check.specs.Writing.{WritesRules};
 
 use link_bundle_rules::BundleRule;
 use link_report_broken_rules::{BrokenRule, BundlePlace, RuleText};
-use link_rules_shared::Level;
+use link_rules_shared::{Doubt, Level};
 use link_run::Writers;
 use link_session_rules::{MessageRule, TransferRule};
 use link_wire::{IoFault, OutDevice};
@@ -69,7 +69,7 @@ impl Rule for BundleRule {
 fn counts(must: bool, broken: &RuleText) -> bool
     ensures { result ≡ counts must broken.now }
 {
-    !must || matches!(broken.rule.level(), Level::Must)
+    !must || matches!(broken.level, Level::Must)
 }
 
 /// If a broken rule counts, writes its line, and sets `good` to false. If not, does nothing.
@@ -93,26 +93,36 @@ fn write_line<W: OutDevice, E: OutDevice>(
     writers.write_text(broken)
 }
 
+/// A rule that is broken at this offset, with its level.
+fn text_of(offset: u64, doubt: Doubt, rule: BrokenRule) -> RuleText
+    ensures { result ≡ text_of offset doubt rule }
+{
+    RuleText {
+        offset,
+        level: rule.level(doubt),
+        rule,
+    }
+}
+
 /// Writes a line for each of these rules that counts. If one counts, sets `good` to false.
 ///
 /// `owner` breaks the rules at `offset`. `must` is whether only rules of level `must` count.
+/// `doubt` is what an unknown part may have changed in the bundle.
 #[inline(never)]
 pub(crate) fn write_rules<T: Rule, W: OutDevice, E: OutDevice>(
     must: bool,
     offset: u64,
+    doubt: Doubt,
     owner: T::Owner,
     rules: &[T],
     writers: &mut Writers<W, E>,
     good: &mut bool,
 ) -> Result<(), IoFault>
     ensures { WritesRules W.state E.state must writers.old writers.new good.old good.new result
-        (at_offset offset (map (T.broken owner) rules.now)) }
+        (at_offset offset doubt (map (T.broken owner) rules.now)) }
 {
     for rule in rules {
-        let broken = RuleText {
-            offset,
-            rule: rule.broken_by(owner),
-        };
+        let broken = text_of(offset, doubt, rule.broken_by(owner));
         if let Err(fault) = write_line(must, &broken, writers, good) {
             return Err(fault);
         }

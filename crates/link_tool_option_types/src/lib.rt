@@ -1,7 +1,8 @@
 //! The options of the tools, as plain types.
 //!
 //! [`Options`] is a tool with its options. [`Wanted`] has those of `unpack`, and [`BlockOptions`]
-//! those of `blocks`. [`CheckOptions`] has [`PeerLimits`], and [`PackOptions`] has a [`NodeId`].
+//! those of `blocks`. [`CheckOptions`] and [`BundleCheckOptions`] are those of `check`, and
+//! [`PackOptions`] those of `pack`. All three have a [`NodeId`].
 //!
 //! The crates of the tools export these types too, so that their callers need not name this crate.
 //! Code that only makes options, such as the command line, needs no tool.
@@ -21,7 +22,7 @@ mod pack;
 mod wanted;
 
 pub use blocks::BlockOptions;
-pub use check::CheckOptions;
+pub use check::{BundleCheckOptions, CheckOptions};
 pub use limits::PeerLimits;
 pub use node::{MAX_NODE_ID, NodeId};
 pub use options::Options;

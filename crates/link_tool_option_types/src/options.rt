@@ -1,7 +1,7 @@
 //! One type for the options of every tool.
 
 use crate::blocks::BlockOptions;
-use crate::check::CheckOptions;
+use crate::check::{BundleCheckOptions, CheckOptions};
 use crate::pack::PackOptions;
 use crate::wanted::Wanted;
 
@@ -16,13 +16,10 @@ pub enum Options {
     Blocks(BlockOptions),
     /// `blocks` of bundles, one after another: a line for each of their blocks.
     BundleBlocks,
-    /// `check` of a recording: a line for each rule that its sender breaks.
+    /// `check` of a recording: a line for each rule that its messages or its bundles break.
     Check(CheckOptions),
     /// `check` of bundles, one after another: a line for each rule that they break.
-    BundleCheck {
-        /// Whether only rules of level `must` have a line, and count.
-        must: bool,
-    },
+    BundleCheck(BundleCheckOptions),
     /// `pack`: bundles as the stream of a sender, and a line for each bundle.
     Pack(PackOptions),
 }

@@ -24,7 +24,7 @@ options_of (job.Unpack wanted) = chosen.Unpack wanted
 options_of (job.Blocks options) = chosen.Blocks options
 options_of job.BundleBlocks = chosen.BundleBlocks
 options_of (job.Check options) = chosen.Check options
-options_of (job.BundleCheck must) = chosen.BundleCheck must
+options_of (job.BundleCheck options) = chosen.BundleCheck options
 options_of (job.Pack options memory) = chosen.Pack options
 
 -- `pack` has a new cutter for its options, or its request for memory was refused. The other tools
@@ -40,7 +40,7 @@ job_tool (job.Unpack wanted) = Some (unpack_tool wanted)
 job_tool (job.Blocks options) = Some (blocks_tool options)
 job_tool job.BundleBlocks = Some bundle_blocks_tool
 job_tool (job.Check options) = Some (check_tool options)
-job_tool (job.BundleCheck must) = Some (bundle_check_tool must)
+job_tool (job.BundleCheck options) = Some (bundle_check_tool options)
 job_tool (job.Pack options (Ok cutter)) = Some (pack_tool options)
 job_tool (job.Pack options (Err refused)) = None
 

@@ -25,7 +25,8 @@ pub use link_tool_check::{
 };
 pub use link_tool_list::{ListRun, list, list_run};
 pub use link_tool_option_types::{
-    BlockOptions, CheckOptions, Options, PackOptions, PeerLimits, Wanted,
+    BlockOptions, BundleCheckOptions, CheckOptions, NodeId, Options, PackOptions, PeerLimits,
+    Wanted,
 };
 pub use link_tool_pack::{PackRun, cutter_for, pack, pack_run};
 pub use link_tool_unpack::{UnpackRun, unpack, unpack_run};

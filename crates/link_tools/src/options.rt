@@ -8,7 +8,9 @@ use link_run::RunEnd;
 use link_tool_blocks::{blocks, bundle_blocks};
 use link_tool_check::{bundle_check, check};
 use link_tool_list::list;
-use link_tool_option_types::{BlockOptions, CheckOptions, Options, PackOptions, Wanted};
+use link_tool_option_types::{
+    BlockOptions, BundleCheckOptions, CheckOptions, Options, PackOptions, Wanted,
+};
 use link_tool_pack::{cutter_for, pack};
 use link_tool_unpack::unpack;
 use link_transfer::Cutter;
@@ -29,7 +31,7 @@ pub enum Job {
     /// The tool of [`Options::Check`].
     Check(CheckOptions),
     /// The tool of [`Options::BundleCheck`].
-    BundleCheck { must: bool },
+    BundleCheck(BundleCheckOptions),
     /// The tool of [`Options::Pack`], with the result of its one request for memory.
     Pack(PackOptions, Result<Cutter, AllocError>),
 }
@@ -48,7 +50,7 @@ impl Job {
             Options::Blocks(options) => Job::Blocks(options),
             Options::BundleBlocks => Job::BundleBlocks,
             Options::Check(options) => Job::Check(options),
-            Options::BundleCheck { must } => Job::BundleCheck { must },
+            Options::BundleCheck(options) => Job::BundleCheck(options),
             Options::Pack(options) => {
                 let memory = cutter_for(alloc, &options);
                 Job::Pack(options, memory)
@@ -77,7 +79,7 @@ pub fn run_tool<R: InDevice, W: OutDevice, E: OutDevice>(
         Job::Blocks(options) => blocks(options, reader, output, report),
         Job::BundleBlocks => bundle_blocks(reader, output, report),
         Job::Check(options) => check(options, reader, output, report),
-        Job::BundleCheck { must } => bundle_check(must, reader, output, report),
+        Job::BundleCheck(options) => bundle_check(options, reader, output, report),
         Job::Pack(options, memory) => pack(memory, options, reader, output, report),
     }
 }

@@ -119,9 +119,10 @@ parsed command words m is fails has from =
 pub tool_fault : (words : List Text) → AreValidWords words → (fault : UsageFault)
     → MayBeFaultOfMatches (subcommand_of table words) fault → MayBeFaultOfWords words fault
 tool_fault words taken fault (inl long) = rw long.0 (taken, long.1)
-tool_fault words taken fault (inr (inl mixed)) = rw mixed.0 (taken, mixed.1)
-tool_fault words taken fault (inr (inr (inl limited))) = rw limited.0 (taken, limited.1)
-tool_fault words taken fault (inr (inr (inr memory))) = rw memory tt
+tool_fault words taken fault (inr (inl none)) = rw none.0 (taken, none.1)
+tool_fault words taken fault (inr (inr (inl mixed))) = rw mixed.0 (taken, mixed.1)
+tool_fault words taken fault (inr (inr (inr (inl limited)))) = rw limited.0 (taken, limited.1)
+tool_fault words taken fault (inr (inr (inr (inr memory)))) = rw memory tt
 
 pub clap_fault : (words : List Text) (kind : ErrorKind) (fault : UsageFault) → MayBeFaultOfClapError kind fault
     → (kind ≡ OutOfMemory) ⊎ IsAmong kind (fault_of table words) → MayBeFaultOfWords words fault

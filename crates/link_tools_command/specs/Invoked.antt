@@ -1,14 +1,16 @@
 -- The invocation that a command line asks for, by the matches that `clap` defines for its words.
-use Rattle.std.specs.Prelude.{◌≡◌, ◌&&◌, ◌||◌, ◌^◌, ℕ, Bool, true, false, List, [], Option, Some, None, codes, is_some, length, max, min, nat_lt, option_and_then, option_map, string_bytes, unwrap_or, if◌then◌else◌}
+use Rattle.std.specs.Prelude.{◌≡◌, ◌&&◌, ◌||◌, ◌^◌, ℕ, Bool, true, false, List, [], Option, Some, None, codes, is_some, length, max, min, nat_lt, not, option_and_then, option_map, string_bytes, unwrap_or, if◌then◌else◌}
 use Rattle.std.specs.{List.list_all, Option.option_map_or, Str.bytes_eq}
 use Rattle.std.specs.{Str.Parse.{digits_value, without_leading_plus}, Char.digit_value}
 use Rattle.clap.specs.Words.{Row, Text, first_of, one_of, subcommand_of}
 use Rattle.link_tool_option_types.specs.declared.wanted.Wanted.{Wanted}
 use Rattle.link_tool_option_types.specs.declared.blocks.BlockOptions.{BlockOptions}
+use Rattle.link_tool_option_types.specs.declared.check.BundleCheckOptions.{BundleCheckOptions}
 use Rattle.link_tool_option_types.specs.declared.check.CheckOptions.{CheckOptions}
 use Rattle.link_tool_option_types.specs.declared.pack.PackOptions.{PackOptions}
 use Rattle.link_tool_option_types.specs.declared.options.Options.{Options}
 use Rattle.link_tool_option_types.specs.declared.options.Options.TheVariants as options
+use Rattle.link_rules_shared.specs.Nodes.{names_node}
 use Rattle.link_tools_command.specs.Table.{table}
 use Rattle.link_tools_command.specs.declared.invocation.Invocation.{Invocation}
 
@@ -38,8 +40,8 @@ number_of limit name rows = unwrap_or (number_in limit name rows) 0
 unfoldable pub is_set : (name : Text) → List Row → Bool
 is_set name rows = option_map_or (λ text. bytes_eq text (codes "true")) (first_of name rows) false
 
--- The value of a required option. It is empty if the option is missing, but `clap` refuses such
--- words.
+-- The value of an option. It is empty if the option was not given, but `clap` refuses words that
+-- lack a required option.
 unfoldable pub text_of : (name : Text) → List Row → Text
 text_of name rows = unwrap_or (first_of name rows) []
 
@@ -51,6 +53,11 @@ is_for_recordings rows =
 -- whether `--bundles` was given together with an option for recordings
 abbrev pub mixes_inputs : List Row → Bool
 mixes_inputs rows = is_set (codes "bundles") rows && is_for_recordings rows
+
+-- whether a value of `--own` was given to `check` that names no node
+abbrev pub own_names_no_node : List Row → Bool
+own_names_no_node rows =
+    option_map_or (λ text. not (names_node text)) (first_of (codes "own") rows) false
 
 -- whether a limit of the peer was given to `check`
 abbrev pub has_peer_limit : List Row → Bool
@@ -79,8 +86,18 @@ pub record IsBlockOptions (rows : List Row) (options : BlockOptions) : Type 0 wh
 pub record IsCheckOptions (rows : List Row) (options : CheckOptions) : Type 0 where
   pub recording : is_set (codes "bundles") rows ≡ false
   pub must : options.must ≡ is_set (codes "must") rows
+  pub own : options.own.items ≡ text_of (codes "own") rows
+  pub named : own_names_no_node rows ≡ false
   pub segment : options.peer.segment ≡ number_in (2 ^ 64) (codes "peer-segment") rows
   pub transfer : options.peer.transfer ≡ number_in (2 ^ 64) (codes "peer-transfer") rows
+
+-- these are the options of `check` for bundles, by its matches
+pub record IsBundleCheckOptions (rows : List Row) (options : BundleCheckOptions) : Type 0 where
+  pub bundles : is_set (codes "bundles") rows ≡ true
+  pub unlimited : has_peer_limit rows ≡ false
+  pub must : options.must ≡ is_set (codes "must") rows
+  pub own : options.own.items ≡ text_of (codes "own") rows
+  pub named : own_names_no_node rows ≡ false
 
 -- These are the options of `pack`, by its matches. `max` and `min` change no number that `clap`
 -- takes, because the table has the same bounds.
@@ -102,9 +119,8 @@ AreOptions name rows (options.Blocks shown) = (name ≡ codes "blocks") × IsBlo
 AreOptions name rows options.BundleBlocks = (name ≡ codes "blocks")
     × (is_set (codes "bundles") rows ≡ true) × (is_for_recordings rows ≡ false)
 AreOptions name rows (options.Check judged) = (name ≡ codes "check") × IsCheckOptions rows judged
-AreOptions name rows (options.BundleCheck must) = (name ≡ codes "check")
-    × (is_set (codes "bundles") rows ≡ true) × (has_peer_limit rows ≡ false)
-    × (must ≡ is_set (codes "must") rows)
+AreOptions name rows (options.BundleCheck judged) =
+    (name ≡ codes "check") × IsBundleCheckOptions rows judged
 AreOptions name rows (options.Pack packing) = (name ≡ codes "pack") × IsPackOptions rows packing
 
 -- the invocation is that of the tool `name`; `rows` are what `clap` matched of its arguments

@@ -72,6 +72,7 @@ blocks_words = tool (codes "blocks") (
 unfoldable pub check_words : Shape
 check_words = tool (codes "check") (
     flag (codes "must")
+    ∷ option (codes "own")
     ∷ number (codes "peer-segment") any_u64
     ∷ number (codes "peer-transfer") any_u64
     ∷ flag (codes "bundles")

@@ -108,13 +108,16 @@ Example:
   0 block 1 at=22 length=11 type=1/payload flags=00 check=none data-at=28 data-length=5
   0 end length=34 good";
 
-const CHECK_ABOUT: &str =
-    "Writes a line for each judged rule of the RFCs that the sender of a recording breaks";
+const CHECK_ABOUT: &str = "Writes a line for each judged rule of the RFCs that a recording breaks";
 
 const CHECK_HELP: &str =
     "A line has an offset, the level (must or should), the rule, and what broke it. The offset is that
 of a message, or of the first segment of a transfer. The level is must if an RFC says so, and if
 the recording of one side proves that the rule is broken.
+
+Rules of messages bind the sender of the recording. Rules of bundles bind the sender, the source of
+the bundle, or the node that added a security block. With --own, a rule that binds the source judges
+only bundles from NODE, and one that binds the adder judges only security blocks from NODE.
 
 The run goes on after a message that is out of order. Standard error has a line only for a fault
 that stops the run.
@@ -249,26 +252,28 @@ fn check_command<'a>(alloc: Global) -> Result<Command<'a>, AllocError>
 fn with_judged<'a>(alloc: Global, tool: Command<'a>) -> Result<Command<'a>, AllocError>
     ensures { IfOk result (AddsArguments (
         flag (codes "must")
+        ∷ option (codes "own")
         ∷ number (codes "peer-segment") any_u64
         ∷ number (codes "peer-transfer") any_u64
         ∷ []) tool.entry) }
 {
     let must = flag(alloc, "must", "Leave out the rules of level should");
     let one = tool.arg(must)?;
+    let two = one.arg(own(alloc))?;
     let segment = number(
         alloc,
         "peer-segment",
         any_u64(),
         "The longest segment that the peer takes, 0 to 18446744073709551615 bytes [default: not judged]",
     );
-    let two = one.arg(segment)?;
+    let three = two.arg(segment)?;
     let transfer = number(
         alloc,
         "peer-transfer",
         any_u64(),
         "The longest transfer that the peer takes, 0 to 18446744073709551615 bytes [default: not judged]",
     );
-    two.arg(transfer)
+    three.arg(transfer)
 }
 
 /// Makes the command of the tool `pack`.
@@ -355,6 +360,18 @@ fn bundles<'a>(alloc: Global) -> Arg<'a>
         alloc,
         "bundles",
         "Read bundles, one after another, in place of a recording",
+    )
+}
+
+/// Makes the argument for the option `--own` of `check`.
+fn own<'a>(alloc: Global) -> Arg<'a>
+    ensures { IsLocalArgOfRule (option (codes "own")) result }
+{
+    option(
+        alloc,
+        "own",
+        "NODE",
+        "The node whose bundles and security blocks are judged, such as ipn:1.0 [default: those of every node]",
     )
 }
 

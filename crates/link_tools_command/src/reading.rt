@@ -1,19 +1,21 @@
 //! Reads the words of a command line by the command of `clap`.
 
-ghost use Rattle.std.specs.Prelude.{◌≡◌, ◌^◌, ◌<◌, ◌⊎◌, codes, length, map, option_map, string_bytes, true, IfErr, IfNone, IfOk, IfSome, Some};
+ghost use Rattle.std.specs.Prelude.{◌≡◌, ◌^◌, ◌<◌, ◌⊎◌, codes, false, length, map, option_map, string_bytes, true, IfErr, IfNone, IfOk, IfSome, Some};
 ghost use Rattle.clap.specs.Words.{first_of, found_of, kind_of, rows_of, subcommand_rows_of, takes};
 ghost use Rattle.link_tools_command.specs.Table.{table};
-ghost use Rattle.link_tools_command.specs.Invoked.{AreOptions, IsInvocationByWords, IsInvocationBy, IsInvocationOfTool, IsPackOptions, IsUnpackOptions, has_peer_limit, is_for_recordings, is_set, limits_bundles, mixes_inputs, number_in, number_of, text_of};
+ghost use Rattle.link_tools_command.specs.Invoked.{AreOptions, IsInvocationByWords, IsInvocationBy, IsInvocationOfTool, IsPackOptions, IsUnpackOptions, has_peer_limit, is_for_recordings, is_set, limits_bundles, mixes_inputs, number_in, number_of, own_names_no_node, text_of};
 ghost use Rattle.link_tools_command.specs.Usage.{AreValidWords, MayBeFaultOfWords};
-ghost use Rattle.link_tools_command.specs.Reading.{MayBeFaultOfMatches, IsToolName, HasToolName, MayBeFaultOfClapError};
+ghost use Rattle.link_tools_command.specs.Reading.{MayBeFaultOfMatches, MayBeFaultOfOwn, IsToolName, HasToolName, MayBeFaultOfClapError};
 
 use crate::command::tcpclkit;
 use crate::invocation::Invocation;
 use crate::usage::UsageFault;
 use clap::error::ErrorKind;
 use clap::{ArgMatches, Error};
+use link_rules_shared::names_node;
 use link_tool_option_types::{
-    BlockOptions, CheckOptions, NodeId, Options, PackOptions, PeerLimits, Wanted,
+    BlockOptions, BundleCheckOptions, CheckOptions, NodeId, Options, PackOptions, PeerLimits,
+    Wanted,
 };
 use std::alloc::{AllocError, Global};
 
@@ -23,7 +25,8 @@ use std::alloc::{AllocError, Global};
 ///
 /// - [`UsageFault::Help`]: `clap` finds a request for help or for the version in the words.
 /// - [`UsageFault::Words`]: `clap` refuses the words. `clap` itself defines which words it takes.
-/// - [`UsageFault::NodeTooLong`]: the node ID has more than 1,024 bytes.
+/// - [`UsageFault::NodeTooLong`]: a node ID has more than 1,024 bytes.
+/// - [`UsageFault::OwnNamesNoNode`]: the text of `--own` names no node.
 /// - [`UsageFault::MixedInputs`]: `--bundles` comes with an option for recordings.
 /// - [`UsageFault::LimitedBundles`]: `--bundles` comes with a limit of the peer.
 /// - [`UsageFault::Memory`]: a request for memory was refused.
@@ -33,8 +36,9 @@ pub fn options(alloc: Global, words: &[String]) -> Result<Invocation, UsageFault
     ensures err { IfErr result (MayBeFaultOfWords (map string_bytes words.now)) }
     ensures passes { takes table (map string_bytes words.now) ≡ true
         → IfErr result (λ fault. (fault ≡ UsageFault.NodeTooLong)
+        ⊎ ((fault ≡ UsageFault.OwnNamesNoNode)
         ⊎ ((fault ≡ UsageFault.MixedInputs)
-        ⊎ ((fault ≡ UsageFault.LimitedBundles) ⊎ (fault ≡ UsageFault.Memory)))) }
+        ⊎ ((fault ≡ UsageFault.LimitedBundles) ⊎ (fault ≡ UsageFault.Memory))))) }
 {
     let command = match tcpclkit(alloc) {
         Ok(command) => command,
@@ -143,21 +147,45 @@ fn is_for_recordings(tool: &ArgMatches<'_>) -> bool
 /// The options of `check`. It is a fault if a limit of the peer comes with `--bundles`.
 fn check(tool: &ArgMatches<'_>) -> Result<Options, UsageFault>
     ensures ok { IfOk result (AreOptions (codes "check") (rows_of (found_of tool.now))) }
-    ensures err { IfErr result (λ fault. (fault ≡ UsageFault.LimitedBundles)
-        × (limits_bundles (rows_of (found_of tool.now)) ≡ true)) }
+    ensures err { IfErr result (λ fault. MayBeFaultOfOwn (rows_of (found_of tool.now)) fault
+        ⊎ ((fault ≡ UsageFault.LimitedBundles)
+        × (limits_bundles (rows_of (found_of tool.now)) ≡ true))) }
 {
     let must = is_set(tool, "must");
+    let own = own(tool)?;
     if !is_set(tool, "bundles") {
         let peer = PeerLimits {
             segment: number_in(tool, "peer-segment"),
             transfer: number_in(tool, "peer-transfer"),
         };
-        return Ok(Options::Check(CheckOptions { must, peer }));
+        return Ok(Options::Check(CheckOptions { must, own, peer }));
     }
     if has_peer_limit(tool) {
         return Err(UsageFault::LimitedBundles);
     }
-    Ok(Options::BundleCheck { must })
+    Ok(Options::BundleCheck(BundleCheckOptions { must, own }))
+}
+
+/// The value of `--own`, which is empty if it was not given. It is a fault if the value is too long
+/// or names no node.
+#[tactic(auto, unfolding(crate::specs::Invoked::text_of))]
+fn own(tool: &ArgMatches<'_>) -> Result<NodeId, UsageFault>
+    ensures value { IfOk result (λ own.
+        own.items ≡ text_of (codes "own") (rows_of (found_of tool.now))) }
+    ensures named { IfOk result (λ _.
+        own_names_no_node (rows_of (found_of tool.now)) ≡ false) }
+    ensures err { IfErr result (MayBeFaultOfOwn (rows_of (found_of tool.now))) }
+{
+    let Some(text) = text(tool, "own") else {
+        return Ok(NodeId::new());
+    };
+    let Ok(own) = NodeId::try_from(text.as_bytes()) else {
+        return Err(UsageFault::NodeTooLong);
+    };
+    if !names_node(text.as_bytes()) {
+        return Err(UsageFault::OwnNamesNoNode);
+    }
+    Ok(own)
 }
 
 /// Whether a limit of the peer was given to `check`.

@@ -14,9 +14,12 @@ pub enum UsageFault {
     /// The words are wrong. This text for standard error says why, and how to find the usage.
     #[error("{0}")]
     Words(String),
-    /// The text of `--node` has more than 1,024 bytes.
+    /// The text of `--node` or of `--own` has more than 1,024 bytes.
     #[error("node id longer than 1024 bytes")]
     NodeTooLong,
+    /// The text of `--own` names no node. An empty text names none.
+    #[error("--own names no node")]
+    OwnNamesNoNode,
     /// `--bundles` was given together with `--transfer` or `--keep-going`, which are for
     /// recordings.
     #[error("--bundles goes with no other option")]
@@ -41,6 +44,7 @@ pub fn usage_exit(fault: &UsageFault) -> (u8, &'static str)
         UsageFault::Help(_) => (0, ""),
         UsageFault::Words(_) => (2, ""),
         UsageFault::NodeTooLong => (2, "tcpclkit: node id longer than 1024 bytes"),
+        UsageFault::OwnNamesNoNode => (2, "tcpclkit: --own names no node"),
         UsageFault::MixedInputs => (2, "tcpclkit: --bundles goes with no other option"),
         UsageFault::LimitedBundles => (
             2,

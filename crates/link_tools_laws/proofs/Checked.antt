@@ -1,9 +1,9 @@
 -- What `unpack` reports of a recording in which `check --must` finds no rule broken.
 use Rattle.std.specs.List.{All, flat_map}
-use Rattle.std.proofs.Common.{◌≡◌, ℕ, true, List, [], ◌∷◌, ◌++◌, length, map, filter_map, Option, Result, arith, false, drop, option_map, Some, None, if◌then◌else◌, refl, ap, sym, ◌∙◌, subst}
-use Rattle.std.proofs.lemmas.{Bool.and_parts, List.map-append, Grind.{flat_map-append, fold-append}}
+use Rattle.std.proofs.Common.{◌≡◌, ℕ, true, List, [], ◌∷◌, ◌++◌, length, map, filter_map, Option, Result, Ok, Err, Bool, arith, false, drop, option_map, Some, None, if◌then◌else◌, refl, ap, sym, ◌∙◌, subst}
+use Rattle.std.proofs.lemmas.{Bool.and_parts, Grind.{flat_map-append, fold-append}}
 use Rattle.std.proofs.lemmas.List.Elements.{All-nil, All-cons, All-append, All-head, All-tail}
-use Rattle.link_tool_option_types.specs.{declared.limits.PeerLimits.PeerLimits, declared.wanted.Wanted.Wanted}
+use Rattle.link_tool_option_types.specs.{declared.check.CheckOptions.CheckOptions, declared.wanted.Wanted.Wanted}
 use Rattle.link_wire.specs.{Message.data_length, Stream.{Entry, End, Reading, reading_of, heads_of}}
 use Rattle.link_wire.specs.{declared.message.Contact.Contact, declared.message.Message.Message}
 use Rattle.link_bundle_types.specs.declared.fault.BundleFault.{BundleFault}
@@ -12,8 +12,9 @@ use Rattle.link_bundle_blocks.specs.Bundle.{verdict}
 use Rattle.link_transfer.specs.{Announced.announced_of, Event.event_of, Order.{refusal, with_taken}}
 use Rattle.link_transfer.specs.declared.announcement.Announced.{Announced}
 use Rattle.link_transfer.specs.declared.fault.OrderFault.{OrderFault}
+use Rattle.link_rules_shared.specs.declared.{doubt.Doubt.Doubt, doubt.Doubt.TheVariants.{Nothing, WholeBundle}}
 use Rattle.link_session_rules.specs.{TransferData.data_rule, Flags.item_flags, NodeIds.node_id}
-use Rattle.link_session_rules.specs.TransferRules.{broken_transfer_rules, if_malformed, if_different, length_item, length_differs, length_of_one_segment, transfer_level_of}
+use Rattle.link_session_rules.specs.TransferRules.{broken_transfer_rules, if_malformed, if_different, length_item, length_differs, length_of_one_segment, transfer_level_of, has_other_item}
 use Rattle.link_session_rules.specs.declared.rule.TransferRule.{TransferRule}
 use Rattle.link_session_rules.specs.{Heads.{HeadWithOrder, messages_of}, Session.{order, order_level}}
 use Rattle.link_session_rules.specs.MessageRules.{broken_rules, judged_rules, level_of}
@@ -24,7 +25,7 @@ use Rattle.link_report_broken_rules.specs.{Names.rule_level, declared.line.RuleT
 use Rattle.link_run.specs.Made.{StreamStop, stop_of}
 use Rattle.link_run_over_transfers.specs.Walk.{head_at, WalkEvent, MessageHead, content_events, Walked, none_walked, with_next, walked_of, end_events, stop_by, told_of}
 use Rattle.link_run_judge.specs.{Transfers.Transfer, Unpacking.Told}
-use Rattle.link_tool_check.specs.Checking.{closed_rules, data_rules, BegunTransfer, heads_with, judged, latest_with, check_tool}
+use Rattle.link_tool_check.specs.Checking.{closed_texts, data_texts, optional, BegunTransfer, heads_with, judged, latest_with, check_tool}
 use Rattle.link_tool_check.specs.Lines.{none_counts, at_offset}
 use Rattle.link_tools_laws.specs.Checked.{IsGoodOrUnsupported, HasGoodOrUnsupportedBundle, IsSecondInitFault, IsSecondInitOrNoStop, HasOnlyAllowedFaults}
 use Rattle.link_tools_laws.specs.{Cuts.{fault_at, faults_after, lined}, RoundTrip.all}
@@ -54,58 +55,74 @@ no_must_both first second none = and_parts _ _ (rw counts_append at none)
 
 -- ---- one transfer
 
-module _ (offset id : ℕ) (content : List ℕ) where
-  data_allowed : (said : Result BundleInfo (BundleFault × ℕ))
-      → NoMust (at_offset offset (data_rules id content said))
-      → IsGoodOrUnsupported content (judged_data said)
+module _ (offset id : ℕ) (content : List ℕ) (has_other : Bool) where
+  -- what an extension item of an unknown type may have changed
+  abbrev doubt : Doubt
+  doubt = if has_other then WholeBundle else Nothing
+
+  data_allowed : (fault : BundleFault × ℕ)
+      → NoMust (at_offset offset doubt
+      (map (λ one. rule.Transfer id one) (optional (data_rule content (Err fault)))))
+      → IsGoodOrUnsupported has_other content (judged_data (Err fault))
   unfolding data_rule none_counts rule_level transfer_level_of
-  data_allowed said none = grind arith
+  data_allowed fault none = grind arith
 
   length_allowed : (announced : Announced) (size : ℕ) (single : Option TransferRule)
       (said : Result BundleInfo (BundleFault × ℕ))
-      → NoMust (at_offset offset (map (λ one. rule.Transfer id one)
+      → NoMust (at_offset offset doubt (map (λ one. rule.Transfer id one)
       (filter_map (λ judged. judged)
       (if_malformed announced ∷ if_different announced size ∷ single ∷ []))))
-      → IsGoodOrUnsupported content (judged_data said)
-      → IsGoodOrUnsupported content (judged_length announced size said)
+      → IsGoodOrUnsupported has_other content (judged_data said)
+      → IsGoodOrUnsupported has_other content (judged_length announced size said)
   unfolding none_counts rule_level transfer_level_of
   length_allowed announced size single said none may = grind arith
 
-closed_allowed : (placed : Placed)
-    → NoMust (at_offset placed.offset (closed_rules (begun_of placed)))
-    → IsGoodOrUnsupported placed.transfer.content
-    (judged_length (announced_of placed.transfer.first.items.items)
-    (length placed.transfer.content) (verdict placed.transfer.content))
-unfolding broken_transfer_rules length_item length_differs
-closed_allowed placed none =
-    let transfer = placed.transfer in
-    let id = transfer.first.id in
-    let both = no_must_both _ _ (rw map-append at none) in
-    length_allowed placed.offset id transfer.content (announced_of transfer.first.items.items)
-    (length transfer.content) (length_of_one_segment transfer.first) (verdict transfer.content)
-    both.0 (data_allowed placed.offset id transfer.content (verdict transfer.content) both.1)
+module _ (own : List ℕ) where
+  said_allowed : (sender : List ℕ) (begun : BegunTransfer)
+      (said : Result BundleInfo (BundleFault × ℕ)) → NoMust (data_texts own sender begun said)
+      → IsGoodOrUnsupported (has_other_item begun.first.items.items) begun.content
+      (judged_data said)
+  said_allowed sender begun (Ok info) none = tt
+  said_allowed sender begun (Err fault) none =
+      data_allowed begun.offset begun.first.id begun.content
+      (has_other_item begun.first.items.items) fault none
 
--- transfers that break no rule of level `must` once they are closed
-pub all_allowed : (placed : List Placed) → NoMust (rules_of placed)
-    → All HasGoodOrUnsupportedBundle (transfers_in placed)
-all_allowed [] none = All-nil HasGoodOrUnsupportedBundle
-all_allowed (latest ∷ earlier) none =
-    let both = no_must_both (rules_of earlier) (due_of latest) none in
-    All-cons HasGoodOrUnsupportedBundle latest.transfer (transfers_in earlier)
-    (grind (arith, closed_allowed, both.1)) (all_allowed earlier both.0)
+  closed_allowed : (placed : Placed) → NoMust (closed_texts own placed.sender (begun_of placed))
+      → IsGoodOrUnsupported (has_other_item placed.transfer.first.items.items)
+      placed.transfer.content
+      (judged_length (announced_of placed.transfer.first.items.items)
+      (length placed.transfer.content) (verdict placed.transfer.content))
+  unfolding broken_transfer_rules length_item length_differs
+  closed_allowed placed none =
+      let transfer = placed.transfer in
+      let items = transfer.first.items.items in
+      let said = verdict transfer.content in
+      let both = no_must_both _ (data_texts own placed.sender (begun_of placed) said) none in
+      length_allowed placed.offset transfer.first.id transfer.content (has_other_item items)
+      (announced_of items) (length transfer.content) (length_of_one_segment transfer.first) said
+      both.0 (said_allowed placed.sender (begun_of placed) said both.1)
+
+  -- transfers that break no rule of level `must` once they are closed
+  pub all_allowed : (placed : List Placed) → NoMust (rules_of own placed)
+      → All HasGoodOrUnsupportedBundle (transfers_in placed)
+  all_allowed [] none = All-nil HasGoodOrUnsupportedBundle
+  all_allowed (latest ∷ earlier) none =
+      let both = no_must_both (rules_of own earlier) (due_of own latest) none in
+      All-cons HasGoodOrUnsupportedBundle latest.transfer (transfers_in earlier)
+      (grind (arith, closed_allowed, both.1)) (all_allowed earlier both.0)
 
 -- ---- the transfers of heads
 
-module _ (peer : PeerLimits) (contact : Option Contact) where
+module _ (asked : CheckOptions) (contact : Option Contact) where
   abbrev every : List Entry → Walked
   every heads = walked_of (going true) contact heads
 
   -- none of the rules counts that these heads break
   abbrev KeepsMusts : List Entry → Type 0
-  KeepsMusts heads = none_counts true (broken_from peer [] None (every heads).events) ≡ true
+  KeepsMusts heads = none_counts true (broken_from asked [] None (every heads).events) ≡ true
 
   module _ (heads : List Entry) (read : AreRead heads) where
-    placed : AfterAll peer [] [] None (every heads).events
+    placed : AfterAll asked [] [] None (every heads).events
     placed = grind (arith, from_start, walk_told)
 
     same_transfers : (wanted : Wanted)
@@ -119,14 +136,14 @@ module _ (peer : PeerLimits) (contact : Option Contact) where
         → All HasGoodOrUnsupportedBundle (unpacked_of wanted heads).transfers
     transfers_allowed keeps wanted =
         subst (All HasGoodOrUnsupportedBundle) (same_transfers wanted)
-        (all_allowed placed.after
-        (rw placed.rules (closed_no_must (broken_from peer [] None (every heads).events) keeps)))
+        (all_allowed asked.own.items placed.after
+        (rw placed.rules (closed_no_must (broken_from asked [] None (every heads).events) keeps)))
 
   -- the first heads keep what all keep
   first_keep : (first rest : List Entry) → KeepsMusts (first ++ rest) → KeepsMusts first
   unfolding walked_of
   first_keep first rest keeps =
-      none_before peer true [] None (every first).events (every (first ++ rest)).events
+      none_before asked true [] None (every first).events (every (first ++ rest)).events
       (rw (fold-append (with_next (going true)) (none_walked contact) first rest)
       (heads_grow (going true) rest (every first)))
       keeps
@@ -157,7 +174,7 @@ walk_faults (head ∷ more) taken =
 
 module _ (offset : ℕ) where
   abbrev lines_for : List MessageRule → List RuleText
-  lines_for broken = at_offset offset (map (λ one. rule.Message one) broken)
+  lines_for broken = at_offset offset Nothing (map (λ one. rule.Message one) broken)
 
   -- rules after others
   later_rules : (first : Option MessageRule) (others : List (Option MessageRule))
@@ -177,26 +194,26 @@ module _ (offset : ℕ) where
   unfolding none_counts rule_level level_of
   order_rule earlier message fault others none = grind arith
 
-module _ (peer : PeerLimits) where
+module _ (asked : CheckOptions) where
   head_allowed : (heads : List HeadWithOrder) (offset : ℕ) (head : HeadWithOrder)
-      → none_counts true (lines_for offset (broken_rules peer heads head)) ≡ true
+      → none_counts true (lines_for offset (broken_rules asked.peer heads head)) ≡ true
       → All IsSecondInitFault (fault_at offset head.fault)
   unfolding broken_rules order
   head_allowed heads offset head none =
-      let judged = judged_rules peer heads head in
+      let judged = judged_rules asked.peer heads head in
       order_rule offset (messages_of heads) head.message head.fault (drop 3 judged)
       (later_rules offset (item_flags head.message) (drop 2 judged)
       (later_rules offset (node_id head.message) (drop 1 judged) none))
 
   event_allowed : (heads : List HeadWithOrder) (latest : Option BegunTransfer) (event : WalkEvent)
-      → none_counts true (broken_with peer heads latest event) ≡ true
+      → none_counts true (broken_with asked heads latest event) ≡ true
       → All IsSecondInitFault (faults_of event)
   event_allowed heads latest (MessageHead head) none =
       head_allowed heads head.offset (judged head) (grind (arith, counts_append))
   event_allowed heads latest event none = All-nil IsSecondInitFault
 
   events_allowed : (events : List WalkEvent) (heads : List HeadWithOrder) (latest : Option BegunTransfer)
-      → none_counts true (broken_from peer heads latest events) ≡ true
+      → none_counts true (broken_from asked heads latest events) ≡ true
       → All IsSecondInitFault (all_faults events)
   events_allowed [] heads latest none = All-nil IsSecondInitFault
   events_allowed (event ∷ more) heads latest none =
@@ -244,8 +261,8 @@ lined_allowed (Some stop) (latest ∷ earlier) allowed =
 
 -- ---- a recording
 
-module _ (peer : PeerLimits) (bytes : List ℕ)
-    (is : ((check_tool (options peer true)).whole bytes).status ≡ 0) where
+module _ (asked : CheckOptions) (bytes : List ℕ)
+    (is : ((check_tool (options asked true)).whole bytes).status ≡ 0) where
   abbrev reading : Reading
   reading = reading_of bytes
 
@@ -253,13 +270,13 @@ module _ (peer : PeerLimits) (bytes : List ℕ)
   heads = heads_of reading
 
   abbrev walk : Walked
-  walk = every peer reading.contact heads
+  walk = every asked reading.contact heads
 
   -- there is no fault of the wire, and no rule that counts is broken
   record IsKept : Type 0 where
     pub unstopped : stop_of reading.end ≡ None
     pub none : none_counts true
-        (broken_from peer [] None (walk.events ++ end_events walk.taken)) ≡ true
+        (broken_from asked [] None (walk.events ++ end_events walk.taken)) ≡ true
 
   kept : IsKept
   unfolding told_of
@@ -267,14 +284,14 @@ module _ (peer : PeerLimits) (bytes : List ℕ)
       let unrefused = ap (λ (w : Walked). w.refused) (walk_is true reading.contact heads) in
       grind (arith, good_kept, status_clean)
 
-  keeps : KeepsMusts peer reading.contact heads
+  keeps : KeepsMusts asked reading.contact heads
   keeps = grind (arith, front_first, kept, none_before)
 
   faults : All IsSecondInitFault (faults_after [] heads)
   faults =
       let same : all_faults walk.events ≡ faults_after [] heads =
       grind (arith, walk_faults, walk_is) in
-      rw (← same) (events_allowed peer walk.events [] None keeps)
+      rw (← same) (events_allowed asked walk.events [] None keeps)
 
   -- the heads before the first that is refused
   abbrev accepted : List Entry
@@ -285,9 +302,9 @@ module _ (peer : PeerLimits) (bytes : List ℕ)
       let first = all_kept heads in
       let read = first.read (reading_read bytes).heads in
       rw (unpacked_in_order all accepted read (accepted_in_order heads)).made at (
-      transfers_allowed peer reading.contact accepted read
-      (first_keep peer reading.contact accepted first.rest
-      (subst (KeepsMusts peer reading.contact) first.parts keeps)) all
+      transfers_allowed asked reading.contact accepted read
+      (first_keep asked reading.contact accepted first.rest
+      (subst (KeepsMusts asked reading.contact) first.parts keeps)) all
       )
 
   pub only_allowed : HasOnlyAllowedFaults bytes
@@ -300,5 +317,5 @@ module _ (peer : PeerLimits) (bytes : List ℕ)
     faults = faults;
     transfers_on = λ wanted.
         rw kept.unstopped
-        (transfers_allowed peer reading.contact heads (reading_read bytes).heads keeps wanted);
+        (transfers_allowed asked reading.contact heads (reading_read bytes).heads keeps wanted);
   }

@@ -12,6 +12,8 @@ mod Walks
 mod Cuts
 mod SameRules
 mod Placed
+mod Senders
+mod OneBundle
 mod Checked
 mod PackedRules
 mod SharedLines

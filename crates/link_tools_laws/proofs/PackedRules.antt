@@ -1,13 +1,15 @@
 -- `check` finds only rules of bundles broken in a packed stream.
-use Rattle.std.specs.{Prelude.IfSome, List.All}
-use Rattle.std.proofs.Common.{◌≡◌, ℕ, ◌*◌, ◌<◌, ◌≤◌, Bool, false, ◌==◌, is_some, List, [], ◌∷◌, ◌++◌, length, drop, Option, Some, None, if◌then◌else◌, refl, ap, sym, subst, append-nil, length-take, length-drop, arith, true, Ok, ◌∙◌}
-use Rattle.std.proofs.lemmas.{Bool.eq-eqb, Bool.Decides.nat_tests}
-use Rattle.std.proofs.lemmas.List.Elements.{All-nil, All-head, All-tail, filter-append}
+use Rattle.std.specs.{Prelude.IfSome, List.{All, flat_map}}
+use Rattle.std.proofs.Common.{◌≡◌, ℕ, ◌*◌, ◌<◌, ◌≤◌, Bool, false, ◌==◌, is_some, List, [], ◌∷◌, ◌++◌, length, drop, map, reverse, Option, Some, None, if◌then◌else◌, refl, ap, sym, subst, append-nil, length-take, length-drop, arith, true, Ok, ◌∙◌}
+use Rattle.std.proofs.lemmas.{List.reverse-append, Bool.eq-eqb, Bool.Decides.nat_tests}
+use Rattle.std.proofs.lemmas.List.Elements.{All-nil, All-cons, All-head, All-tail, All-push, filter-append}
+use Rattle.link_tool_option_types.specs.declared.check.CheckOptions.{CheckOptions}
 use Rattle.link_tool_option_types.specs.declared.limits.PeerLimits.{PeerLimits}
 use Rattle.link_tool_option_types.specs.declared.pack.PackOptions.{PackOptions}
 use Rattle.link_wire.specs.{Stream.{Entry, reading_of, heads_of}}
-use Rattle.link_wire.specs.{declared.message.Message.Message}
+use Rattle.link_wire.specs.{Spelling.announced, declared.message.Message.Message}
 use Rattle.link_wire.specs.{Message.data_length, declared.message.SegmentHead.SegmentHead}
+use Rattle.link_bundle_rules.specs.Sources.{known_source_of}
 use Rattle.link_bundle_types.specs.declared.info.BundleInfo.{BundleInfo}
 use Rattle.link_bundle_blocks.specs.Bundle.{verdict}
 use Rattle.link_transfer.specs.{Announced.announced_of, Chunks.chunk_count, Cutting.announcement}
@@ -16,16 +18,16 @@ use Rattle.link_transfer.specs.declared.joiner.Turn.{Turn}
 use Rattle.link_transfer.proofs.{Joining.IsJoinerAt-none, Due.chunk_left}
 use Rattle.link_session_rules.specs.{Heads.HeadWithOrder, MessageRules.broken_rules}
 use Rattle.link_session_rules.specs.{Lengths.{segments_of, peer_transfer}, Flags.contact_flags}
-use Rattle.link_session_rules.specs.TransferRules.{broken_transfer_rules, length_item, length_differs, length_of_one_segment}
+use Rattle.link_session_rules.specs.TransferRules.{broken_transfer_rules, length_item, length_differs, length_of_one_segment, has_other_item}
 use Rattle.link_report_broken_rules.specs.declared.line.RuleText.{RuleText}
 use Rattle.link_run_over_transfers.specs.Walk.{head_at, WalkEvent, Data, Whole, data_events, content_events, walked_of, end_events}
 use Rattle.link_run_judge.specs.Transfers.{Transfer}
 use Rattle.link_run_over_bundle_files.specs.Bundles.{BundleWithInfo, Divided, divided}
-use Rattle.link_tool_check.specs.Checking.{judged, BegunTransfer, begun_by, closed_rules, latest_with}
-use Rattle.link_tool_check.specs.{BundleRules.bundle_rules, Lines.at_offset}
+use Rattle.link_tool_check.specs.Checking.{judged, BegunTransfer, begun_by, closed_texts, latest_with, origin_of}
+use Rattle.link_tool_check.specs.BundleRules.{bundle_doubt, bundle_rules}
 use Rattle.link_tool_pack.specs.{Packing.{segment_size, sending}, Segments.{BundleToCut, cut_at}}
-use Rattle.link_tools_laws.specs.{PackedRules.{IsWithinPeerLimits, OptionsKeepInitRules, BreaksNoMoreThanItsBundles}, RoundTrip.all}
-use Rattle.link_tools_laws.specs.SameRules.{is_of_bundle, reports}
+use Rattle.link_tools_laws.specs.{PackedRules.{IsWithinPeerLimits, OptionsKeepInitRules, BreaksNoMoreThanItsBundles}, RoundTrip.all, Ranges.InputFits}
+use Rattle.link_tools_laws.specs.SameRules.{TransferWithBundle, transfer_with, sender_in, broken_in_transfer, is_of_bundle, reports}
 use Rattle.link_tools_laws.proofs.Carried.{ToKeep, Come, onto, packed_come, term_come, onto_all, packed_transfers}
 use Rattle.link_tools_laws.proofs.ClearHeads.{segment_clear, init_clear, term_clear, new_id, next_id, IsAtMost, exceeds_none, short_none, fresh, carrying, may_come, turn_at, turn_for, none_abandoned, earlier_is, head_of, last_at, segment_at, heads_back, first_back, size_back, At, now_is, ends_as}
 use Rattle.link_tools_laws.proofs.Entries.{AreBundles, chunk_of, message_of, packed_entries, init_entry, packed_reading, some_size}
@@ -35,7 +37,6 @@ use Rattle.link_tools_laws.proofs.{Same.{not_stray, taken_more, unpacked_in_orde
 use Rattle.link_tools_laws.proofs.Walks.{going, walk_events, taken_by, walk_is}
 use Rattle.link_wire.specs.declared.message.Message.TheVariants as message
 use Rattle.link_report_broken_rules.specs.declared.rule.BrokenRule.TheVariants as rule
-use Rattle.link_report_broken_rules.specs.declared.rule.BundlePlace.TheVariants as place
 use Rattle.link_tools_laws.proofs.SameRules as same
 
 -- ---- the messages break no rule of messages
@@ -125,13 +126,13 @@ module _ (options : PackOptions) (peer : PeerLimits) (allows : IsWithinPeerLimit
 
 -- ---- the walk over heads
 
-module _ (peer : PeerLimits) where
+module _ (asked : CheckOptions) where
   -- these events break only rules of closed transfers, whichever transfer began last
   abbrev OnlyClosed : (before : List HeadWithOrder) → List WalkEvent → Type 0
   OnlyClosed before events =
       (latest : Option BegunTransfer)
-      → passing is_closed (broken_from peer before latest events)
-      ≡ broken_from peer before latest events
+      → passing is_closed (broken_from asked before latest events)
+      ≡ broken_from asked before latest events
 
   bytes_closed : (bytes : List ℕ) (whole : Bool) (before : List HeadWithOrder)
       (rest : List WalkEvent) → OnlyClosed before rest
@@ -147,10 +148,11 @@ module _ (peer : PeerLimits) where
       → OnlyClosed before (content_events effect size content ++ rest)
   content_closed effect size content before rest only = grind (arith, bytes_closed)
 
-  module _ (options : PackOptions) (allows : IsWithinPeerLimits options peer) where
+  module _ (options : PackOptions) (allows : IsWithinPeerLimits options asked.peer) where
     abbrev IsClear : List Message → (before : List HeadWithOrder) → List Transfer → List Entry → Type 0
     IsClear taken before transfers heads =
-        Come (Clear options peer allows) (Closed options peer allows) taken before transfers heads
+        Come (Clear options asked.peer allows) (Closed options asked.peer allows) taken before
+        transfers heads
 
     -- and they leave no transfer open
     heads_closed : (heads : List Entry) (taken : List Message) (before : List HeadWithOrder)
@@ -175,7 +177,7 @@ module _ (peer : PeerLimits) where
     -- the contact header of a packed stream has no flags
     stream_closed : (heads : List Entry) → IsClear [] [] [] heads
         → (let was = walked_of (going true) (Some (record { flags = 0 })) heads in
-        let broken = broken_from peer [] None (was.events ++ end_events was.taken) in
+        let broken = broken_from asked [] None (was.events ++ end_events was.taken) in
         passing is_closed broken ≡ broken)
     unfolding contact_flags
     stream_closed heads clear =
@@ -191,28 +193,64 @@ record BreaksNone (transfer : Transfer) : Type 0 where
   pub info : BundleInfo
   pub is : verdict transfer.content ≡ Ok info
 
-due_bundles : (placed : Placed) → BreaksNone placed.transfer
-    → same.of_bundles (due_of placed) ≡ due_of placed
-due_bundles placed none =
-    elim placed.transfer.closed as (λ closed.
-    (let due = if closed then at_offset placed.offset (closed_rules (begun_of placed)) else [] in
-    same.of_bundles due ≡ due)) [
-      | true ↦ rw (none.lengths, none.is) (all_pass is_of_bundle
-          (λ one. rule.Bundle (place.Transfer placed.transfer.first.id) one) placed.offset
-          (λ one. refl) (bundle_rules placed.transfer.content none.info))
-      | false ↦ refl
-    ]
+module _ (own : List ℕ) where
+  due_bundles : (placed : Placed) → BreaksNone placed.transfer
+      → same.of_bundles (due_of own placed) ≡ due_of own placed
+  due_bundles placed none =
+      let begun = begun_of placed in
+      let content = placed.transfer.content in
+      let origin = origin_of placed.sender begun in
+      elim placed.transfer.closed as (λ closed.
+      (let due = if closed then closed_texts own placed.sender begun else [] in
+      same.of_bundles due ≡ due)) [
+        | true ↦ rw (none.lengths, none.is) (all_pass is_of_bundle
+            (λ one. rule.Bundle origin.place one) origin.offset
+            (bundle_doubt own origin.has_other_item content) (λ one. refl)
+            (bundle_rules own (known_source_of own placed.sender none.info.source) content none.info))
+        | false ↦ refl
+      ]
 
--- they break only rules of bundles
-only_bundles : (placed : List Placed) → All BreaksNone (transfers_in placed)
-    → same.of_bundles (rules_of placed) ≡ rules_of placed
-only_bundles [] none = refl
-only_bundles (latest ∷ earlier) none =
-    rw (
-      filter-append,
-      only_bundles earlier (All-tail BreaksNone latest.transfer (transfers_in earlier) none),
-      due_bundles latest (All-head BreaksNone latest.transfer (transfers_in earlier) none),
-    ) refl
+  -- they break only rules of bundles
+  only_bundles : (placed : List Placed) → All BreaksNone (transfers_in placed)
+      → same.of_bundles (rules_of own placed) ≡ rules_of own placed
+  only_bundles [] none = refl
+  only_bundles (latest ∷ earlier) none =
+      rw (
+        filter-append,
+        only_bundles earlier (All-tail BreaksNone latest.transfer (transfers_in earlier) none),
+        due_bundles latest (All-head BreaksNone latest.transfer (transfers_in earlier) none),
+      ) refl
+
+-- ---- extension items
+
+-- a transfer has no extension item of an unknown type
+abbrev HasKnownItems : Transfer → Type 0
+HasKnownItems transfer = has_other_item transfer.first.items.items ≡ false
+
+items_known : (announce : Option ℕ) → has_other_item (announced announce) ≡ false
+items_known None = refl
+items_known (Some total) = refl
+
+reversed_known : (transfers : List Transfer) → All HasKnownItems transfers
+    → All HasKnownItems (reverse transfers)
+reversed_known [] known = known
+reversed_known (latest ∷ earlier) known =
+    rw (reverse-append (latest ∷ []) earlier)
+    (All-push HasKnownItems (reverse earlier) latest
+    (reversed_known earlier (All-tail HasKnownItems latest earlier known))
+    (All-head HasKnownItems latest earlier known))
+
+abbrev CarriesKnownItems : TransferWithBundle → Type 0
+CarriesKnownItems carried = HasKnownItems (transfer_with carried)
+
+carried_known : (carried : List TransferWithBundle)
+    → All HasKnownItems (map transfer_with carried) → All CarriesKnownItems carried
+carried_known [] known = All-nil CarriesKnownItems
+carried_known (first ∷ more) known =
+    let others = map transfer_with more in
+    All-cons CarriesKnownItems first more
+    (All-head HasKnownItems (transfer_with first) others known)
+    (carried_known more (All-tail HasKnownItems (transfer_with first) others known))
 
 -- ---- the transfers of a packed stream
 
@@ -235,8 +273,8 @@ module _ (options : PackOptions) (id : ℕ) (bundle : List ℕ) where
 -- ---- a packed stream
 
 module _ (options : PackOptions) (bytes : List ℕ) (is_packed : IsPacked options bytes)
-    (status : (packed options bytes).status ≡ 0) (peer : PeerLimits)
-    (allows : IsWithinPeerLimits options peer) (keeps : OptionsKeepInitRules options) where
+    (status : (packed options bytes).status ≡ 0) (asked : CheckOptions)
+    (allows : IsWithinPeerLimits options asked.peer) (keeps : OptionsKeepInitRules options) where
   abbrev stream : List ℕ
   stream = (packed options bytes).texts.output
 
@@ -257,40 +295,63 @@ module _ (options : PackOptions) (bytes : List ℕ) (is_packed : IsPacked option
   clean = same.clean stream (gives_back options bytes is_packed status).status
 
   abbrev broken : List RuleText
-  broken = same.broken peer stream clean
+  broken = same.broken asked stream clean
 
   closed : passing is_closed broken ≡ broken
   closed =
       rw (reading_of-packed, append-nil (packed_entries options all_bundles))
-      (stream_closed peer options allows _
-      (packed_clear options peer allows keeps bundles is_packed.divides.bundles))
+      (stream_closed asked options allows _
+      (packed_clear options asked.peer allows keeps bundles is_packed.divides.bundles))
 
-  transfers : transfers_in (same.placed peer stream clean).after ≡ onto options 0 bundles []
+  transfers : transfers_in (same.placed asked stream clean).after ≡ onto options 0 bundles []
   transfers =
-      same.same_transfers peer stream clean
+      same.same_transfers asked stream clean
       ∙ (unpacked_in_order all (heads_of (reading_of stream)) (reading_read stream).heads
       is_packed.carries.in_order).made
       ∙ is_packed.carries.makes
       ∙ ap (packed_transfers options) whole_input
 
-  none_broken : All BreaksNone (transfers_in (same.placed peer stream clean).after)
+  none_broken : All BreaksNone (transfers_in (same.placed asked stream clean).after)
   none_broken =
       subst (All BreaksNone) (sym transfers)
       (onto_all options BreaksNone
       (λ number bundle is. transfer_none options number bundle.bytes bundle.info is.is) 0 bundles []
       is_packed.divides.bundles (All-nil BreaksNone))
 
-  pub breaks_no_more : BreaksNoMoreThanItsBundles peer bytes stream
-  breaks_no_more =
-      let carries = same.carries peer stream clean in
-      let rules = (same.placed peer stream clean).rules ∙ closed in
+  known_items : All HasKnownItems (transfers_in (same.placed asked stream clean).after)
+  known_items =
+      subst (All HasKnownItems) (sym transfers)
+      (onto_all options HasKnownItems
+      (λ number bundle is. items_known (cut_at (sending options true bundle.bytes) 0).announce)
+      0 bundles [] is_packed.divides.bundles (All-nil HasKnownItems))
+
+  sender : sender_in stream ≡ options.node.items
+  sender = rw reading_of-packed refl
+
+  pub breaks_no_more : InputFits bytes
+      → BreaksNoMoreThanItsBundles asked options.node.items bytes stream
+  breaks_no_more fits =
+      let carries = same.carries asked stream clean in
+      let carried : flat_map same.bytes_in carries.transfers ≡ bytes =
+      sym (same.carried_bytes asked stream clean)
+      ∙ (gives_back options bytes is_packed status).output in
+      let rules = (same.placed asked stream clean).rules ∙ closed in
       record {
         transfers = carries.transfers;
         good = carries.good;
-        carries =
-            sym (same.carried_bytes peer stream clean)
-            ∙ (gives_back options bytes is_packed status).output;
+        carries = carried;
+        items =
+            carried_known carries.transfers (rw carries.are (reversed_known _ known_items));
         checked = λ must.
-            same.recorded peer stream clean must
-            ∙ ap (reports must) (sym rules ∙ sym (only_bundles _ none_broken) ∙ carries.broken);
+            same.recorded asked stream clean must
+            ∙ ap (reports must)
+            (sym rules
+            ∙ sym (only_bundles asked.own.items _ none_broken)
+            ∙ carries.broken
+            ∙ ap (λ (node : List ℕ).
+            flat_map (broken_in_transfer asked.own.items node) carries.transfers) sender);
+        joined = λ must.
+            same.joined_rules (record { must = must; own = asked.own }) bytes carries.transfers
+            carries.good (sym carried) (let few = fits.few in omega arith);
+        same = same.all_same asked.own.items options.node.items carries.transfers;
       }

@@ -352,6 +352,12 @@ module _ (wanted : Wanted) where
         let tells = heads_tell wanted false reading.contact heads reads.heads in
         cc (walked_ordered, (all_kept heads).whole none, unrefused false _ _ tells)
 
+    -- if the walk ends at no head, all heads are in order
+    pub none_refused : (walked_of (manner false) reading.contact heads).refused ≡ None
+        → AreInOrder heads
+    none_refused unrefused =
+        (all_kept heads).whole (ap (λ (w : Walked). w.refused) (sym walked_ordered) ∙ unrefused)
+
     -- all that is said of a stream that goes on and ends without a fault
     pub every_told : (all_heads : Bool) → stop_of reading.end ≡ None
         → (let was = walked_of (going all_heads) reading.contact heads in

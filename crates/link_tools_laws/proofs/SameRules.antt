@@ -1,18 +1,19 @@
 -- If every transfer of a recording is over and good, `blocks` and `check` say of the bundles that
 -- `unpack` joins what they say of the recording.
 use Rattle.std.specs.List.{All, flat_map, fold}
-use Rattle.std.proofs.Common.{◌≡◌, ℕ, ◌≤◌, true, false, List, [], ◌∷◌, ◌++◌, length, drop, map, None, Result, Ok, Err, refl, ap, sym, ◌∙◌, ⊎_elim, append-nil, length-append, arith, suc, Option, Bool}
+use Rattle.std.proofs.Common.{◌≡◌, ℕ, ◌≤◌, true, false, List, [], ◌∷◌, ◌++◌, length, drop, map, reverse, None, Result, Ok, Err, refl, ap, sym, ◌∙◌, ⊎_elim, append-nil, length-append, arith, suc, Option, Bool}
 use Rattle.std.proofs.lemmas.{Bool.{cases_Bool, and_parts}, Grind.flat_map-append}
-use Rattle.std.proofs.lemmas.{List.{take-append-drop, map-append}, List.Folds.flat_map-map}
-use Rattle.std.proofs.lemmas.List.Elements.{All-nil, All-head, All-tail, All-push, filter-append, All-map}
+use Rattle.std.proofs.lemmas.{List.{take-append-drop, map-append, reverse-append}, List.Folds.flat_map-map}
+use Rattle.std.proofs.lemmas.List.Elements.{All-nil, All-cons, All-head, All-tail, All-push, filter-append, All-map}
 use Rattle.link_cbor.specs.PieceLaws.{takes_shortest}
-use Rattle.link_tool_option_types.specs.declared.limits.PeerLimits.{PeerLimits}
+use Rattle.link_tool_option_types.specs.declared.check.{BundleCheckOptions.BundleCheckOptions, CheckOptions.CheckOptions}
 use Rattle.link_wire.specs.{Bytes.AreBytes, SpelledStream.IsReadingOf}
 use Rattle.link_wire.specs.Stream.{Entry, Reading, reading_of, heads_of}
 use Rattle.link_bundle_types.specs.{Faults.lasts, declared.fault.BundleFault.BundleFault}
 use Rattle.link_bundle_types.specs.declared.info.BundleInfo.{BundleInfo}
 use Rattle.link_bundle_blocks.specs.Bundle.{verdict, state_of, is_going, bundle_goes}
 use Rattle.link_bundle_blocks.proofs.Lengths.{FaultLasts-holds, ByteAfterBundleIsTrailing-holds}
+use Rattle.link_bundle_rules.specs.Sources.{known_source_of}
 use Rattle.link_session_rules.specs.TransferRules.{broken_transfer_rules}
 use Rattle.link_report.specs.declared.judgement.Judgement.TheVariants.{Good}
 use Rattle.link_report_broken_rules.specs.declared.line.RuleText.{RuleText}
@@ -28,18 +29,18 @@ use Rattle.link_run_over_bundle_files.proofs.{Dividing.{divided_none, divided_wh
 use Rattle.link_run_over_bundle_files.proofs.Outcomes.{told_as}
 use Rattle.link_tool_blocks.specs.Bundles.{whole_lines, bundle_lines, bundle_blocks_telling}
 use Rattle.link_tool_blocks.specs.Showing.{lines_of, order_line_of, blocks_tool}
-use Rattle.link_tool_check.specs.{BundleRules.bundle_rules, Bundles.bundle_check_telling}
-use Rattle.link_tool_check.specs.Checking.{check_tool}
-use Rattle.link_tools_laws.specs.{RoundTrip.all, Transfers.{are_good, unpacked_of}, Ranges.InputFits}
-use Rattle.link_tools_laws.specs.SameRules.{TransferWithBundle, broken_in_transfer, is_of_bundle, reports, HasSameBundleRules}
+use Rattle.link_tool_check.specs.{BundleRules.{bundle_doubt, bundle_rules}, Bundles.{broken_bundles, bundle_check_telling, bundle_check_tool}}
+use Rattle.link_tool_check.specs.Checking.{item_doubt, origin_of, check_tool}
+use Rattle.link_tools_laws.specs.{RoundTrip.all, Transfers.{are_good, transfers_of, unpacked_of}, Ranges.InputFits}
+use Rattle.link_tools_laws.specs.SameRules.{TransferWithBundle, transfer_with, sender_in, broken_in_transfer, is_of_bundle, reports, BreaksSameRules, HasSameBundleRules}
 use Rattle.link_tools_laws.specs.SameLines.{shown, unpacked, lines_under, renumbered, HasSameBlockLinesUnpacked}
-use Rattle.link_tools_laws.proofs.Placed.{Placed, passing, all_pass, none_pass, transfers_in, due_of, rules_of, is_closed, told_transfers, AfterAll, from_start, options, broken_from, lines_said, good_kept}
+use Rattle.link_tools_laws.proofs.Placed.{Placed, IsFrom, AllComeFrom, passing, all_pass, none_pass, transfers_in, begun_of, due_of, rules_of, is_closed, told_transfers, AfterAll, from_start, options, broken_from, lines_said, good_kept}
 use Rattle.link_tools_laws.proofs.Cuts.{reading_size, order_size, every_byte}
-use Rattle.link_tools_laws.proofs.Walks.{closed_at_end, follow_both, reading_told, end_follows, content_none, going, walk_is}
-use Rattle.link_tools_laws.proofs.Same.{clean_end, clean_told, every_told}
+use Rattle.link_tools_laws.proofs.Walks.{closed_at_end, follow_both, reading_told, end_follows, content_none, going, taken_by, walk_is}
+use Rattle.link_tools_laws.proofs.Same.{AreInOrder, clean_end, clean_told, every_told, none_refused, unpacked_in_order}
+use Rattle.link_tools_laws.proofs.{OneBundle.breaks_same, Senders.all_from}
 use Rattle.link_tools_laws.proofs.Whole.{AreWhole, reading_read}
 use Rattle.link_report_broken_rules.specs.declared.rule.BrokenRule.TheVariants as rule
-use Rattle.link_report_broken_rules.specs.declared.rule.BundlePlace.TheVariants as place
 
 -- ---- a good bundle is its own shortest prefix
 
@@ -118,53 +119,75 @@ module _ (placed : Placed) (good : IsGoodTransfer placed.transfer) where
   abbrev carried : TransferWithBundle
   carried = record {
     offset = placed.offset;
-    id = placed.transfer.first.id;
+    first = placed.transfer.first;
     bundle = record { bytes = placed.transfer.content; info = good.info };
   }
 
   -- the rules of bundles among those that it breaks
-  bundle_broken : passing is_of_bundle (due_of placed) ≡ broken_in_transfer carried
-  bundle_broken =
-      let first = placed.transfer.first in
-      let length_rules = broken_transfer_rules first (length placed.transfer.content) in
+  bundle_due : (own : List ℕ) → passing is_of_bundle (due_of own placed)
+      ≡ broken_in_transfer own placed.sender carried
+  bundle_due own =
+      let begun = begun_of placed in
+      let content = placed.transfer.content in
+      let origin = origin_of placed.sender begun in
+      let source = known_source_of own placed.sender good.info.source in
       rw (
         good.closed,
         good.is,
-        map-append,
         filter-append,
-        none_pass is_of_bundle (λ one. rule.Transfer first.id one) placed.offset (λ one. refl)
-            length_rules,
-        all_pass is_of_bundle (λ one. rule.Bundle (place.Transfer first.id) one) placed.offset
-            (λ one. refl) (bundle_rules placed.transfer.content good.info),
+        none_pass is_of_bundle (λ one. rule.Transfer begun.first.id one) begun.offset
+            (item_doubt begun) (λ one. refl) (broken_transfer_rules begun.first (length content)),
+        all_pass is_of_bundle (λ one. rule.Bundle origin.place one) origin.offset
+            (bundle_doubt own origin.has_other_item content) (λ one. refl)
+            (bundle_rules own source content good.info),
       ) refl
 
-abbrev pub lines_in : TransferWithBundle → List ℕ
-lines_in carried = whole_lines carried.id carried.bundle
+  bundle_broken : (own sender : List ℕ) → IsFrom sender placed
+      → passing is_of_bundle (due_of own placed) ≡ broken_in_transfer own sender carried
+  bundle_broken own sender is = bundle_due own ∙ ap (λ node. broken_in_transfer own node carried) is
 
--- these transfers carry these bundles; the latest transfer comes first in its list
-pub record CarryAll (placed : List Placed) : Type 0 where
+  same_transfer : transfer_with carried ≡ placed.transfer
+  same_transfer = rw good.closed refl
+
+abbrev pub lines_in : TransferWithBundle → List ℕ
+lines_in carried = whole_lines carried.first.id carried.bundle
+
+-- these transfers of the node `sender` carry these bundles; the latest transfer comes first in its
+-- list
+pub record CarryAll (own sender : List ℕ) (placed : List Placed) : Type 0 where
   pub transfers : List TransferWithBundle
+  pub are : map transfer_with transfers ≡ reverse (transfers_in placed)
   pub good : All IsGood transfers
   pub parts : parts_of all (transfers_in placed) ≡ flat_map bytes_in transfers
   pub lines : lines_of None false (transfers_in placed) ≡ flat_map lines_in transfers
-  pub broken : passing is_of_bundle (rules_of placed) ≡ flat_map broken_in_transfer transfers
+  pub broken : passing is_of_bundle (rules_of own placed)
+      ≡ flat_map (broken_in_transfer own sender) transfers
 
-pub carry_all : (placed : List Placed) → are_good (transfers_in placed) ≡ true → CarryAll placed
+pub carry_all : (own sender : List ℕ) (placed : List Placed) → All (IsFrom sender) placed
+    → are_good (transfers_in placed) ≡ true → CarryAll own sender placed
 unfolding are_good lines_of parts_of
-carry_all [] good = record {
+carry_all own sender [] from good = record {
   transfers = [];
+  are = refl;
   good = All-nil IsGood;
   parts = refl;
   lines = refl;
   broken = refl;
 }
-carry_all (latest ∷ earlier) good =
+carry_all own sender (latest ∷ earlier) from good =
     let both = and_parts _ (are_good (transfers_in earlier)) good in
     let first = good_transfer latest.transfer both.0 in
-    let before = carry_all earlier both.1 in
+    let before = carry_all own sender earlier (All-tail (IsFrom sender) latest earlier from) both.1 in
+    let is_from = All-head (IsFrom sender) latest earlier from in
     let one = carried latest first in
     record {
       transfers = before.transfers ++ one ∷ [];
+      are = rw (
+        map-append,
+        before.are,
+        same_transfer latest first,
+        ← reverse-append (latest.transfer ∷ []) (transfers_in earlier),
+      ) refl;
       good = All-push IsGood before.transfers one before.good first.is;
       parts = rw (before.parts, flat_map-append, append-nil) refl;
       lines =
@@ -177,8 +200,8 @@ carry_all (latest ∷ earlier) good =
       broken = rw (
         filter-append,
         before.broken,
-        bundle_broken latest first,
-        flat_map-append broken_in_transfer,
+        bundle_broken latest first own sender is_from,
+        flat_map-append (broken_in_transfer own sender),
         append-nil,
       ) refl;
     }
@@ -204,7 +227,7 @@ heads_none (head ∷ more) was none =
 -- ---- bundles under their numbers
 
 abbrev numbered : TransferWithBundle → ℕ × BundleWithInfo
-numbered carried = (carried.id, carried.bundle)
+numbered carried = (carried.first.id, carried.bundle)
 
 lines_renumbered : (from : ℕ) (transfers : List TransferWithBundle)
     → bundle_lines from (map bundle_in transfers)
@@ -218,13 +241,18 @@ lines_renumbered from (carried ∷ more) =
 abbrev only_output : List ℕ → Outcome
 only_output lines = record { texts = on_output lines; status = 0 }
 
--- a transfer whose offset does not matter
+-- a transfer whose offset and sender do not matter
 abbrev unplaced : Transfer → Placed
-unplaced transfer = record { offset = 0; transfer = transfer }
+unplaced transfer = record { offset = 0; transfer = transfer; sender = [] }
 
 all_placed : (transfers : List Transfer) → transfers_in (map unplaced transfers) ≡ transfers
 all_placed [] = refl
 all_placed (latest ∷ earlier) = ap (λ (ts : List Transfer). latest ∷ ts) (all_placed earlier)
+
+all_unknown : (transfers : List Transfer) → All (IsFrom []) (map unplaced transfers)
+all_unknown [] = All-nil (IsFrom [])
+all_unknown (latest ∷ earlier) =
+    All-cons (IsFrom []) (unplaced latest) (map unplaced earlier) refl (all_unknown earlier)
 
 -- ---- an input without a fault
 
@@ -267,6 +295,12 @@ module _ (bytes : List ℕ) where
     unpacks =
         cc (is.stop, is.are)
 
+    pub heads_order : AreInOrder (heads_of reading)
+    heads_order = none_refused all reading (reading_read bytes) is.unrefused
+
+    pub in_order : transfers ≡ transfers_of (heads_of reading)
+    in_order = (unpacked_in_order all (heads_of reading) (reading_read bytes).heads heads_order).made
+
     pub whole_heads : AreWhole (heads_of reading)
     whole_heads = rw (clean_end reading.end is.end, append-nil) (reading_read bytes).whole
 
@@ -294,7 +328,8 @@ module _ (bytes : List ℕ) where
   same_lines spelled input is =
       let so = clean is in
       let same = all_placed transfers in
-      let carried = carry_all (map unplaced transfers) (ap are_good same ∙ so.good) in
+      let carried = carry_all [] [] (map unplaced transfers) (all_unknown transfers)
+      (ap are_good same ∙ so.good) in
       let joins = unpacks so ∙ ap (parts_of all) (sym same) ∙ carried.parts in
       record {
         bundles = map numbered carried.transfers;
@@ -318,6 +353,25 @@ module _ (bytes : List ℕ) where
             ∙ ap only_output (lines_renumbered 0 carried.transfers);
       }
 
+-- ---- the rules of bundles
+
+-- `check --bundles` of the bundles of these transfers, one after another
+pub joined_rules : (options : BundleCheckOptions) (bytes : List ℕ)
+    (transfers : List TransferWithBundle) → All IsGood transfers
+    → bytes ≡ flat_map bytes_in transfers → length bytes ≤ bundle_limit
+    → (bundle_check_tool options).whole bytes
+    ≡ reports options.must (broken_bundles options.own.items 0 0 (map bundle_in transfers))
+joined_rules options bytes transfers good is few =
+    ap (λ (made : Made). whole_by made.stop made)
+    (told_as (bundle_check_telling options) bytes _ (divided_as bytes transfers good is few))
+
+pub all_same : (own sender : List ℕ) (transfers : List TransferWithBundle)
+    → All (BreaksSameRules own sender) transfers
+all_same own sender [] = All-nil (BreaksSameRules own sender)
+all_same own sender (first ∷ more) =
+    All-cons (BreaksSameRules own sender) first more (breaks_same own sender first)
+    (all_same own sender more)
+
 -- ---- the rules of bundles among others
 
 abbrev pub of_bundles : List RuleText → List RuleText
@@ -327,7 +381,7 @@ bundles_closed : (lines : List RuleText) → of_bundles (passing is_closed lines
 bundles_closed [] = refl
 bundles_closed (line ∷ more) = grind (arith, bundles_closed more)
 
-module _ (peer : PeerLimits) where
+module _ (asked : CheckOptions) where
   -- ---- a recording
 
   module _ (bytes : List ℕ) (clean : IsClean bytes) where
@@ -338,22 +392,22 @@ module _ (peer : PeerLimits) where
     all_events = every.events ++ end_events every.taken
 
     abbrev pub broken : List RuleText
-    broken = broken_from peer [] None all_events
+    broken = broken_from asked [] None all_events
 
     pub unrefused : every.refused ≡ None
     unrefused =
         ap (λ (w : Walked). w.refused)
         (walk_is true (reading bytes).contact (heads_of (reading bytes)))
 
-    pub recorded : (must : Bool) → (check_tool (options peer must)).whole bytes ≡ reports must broken
+    pub recorded : (must : Bool) → (check_tool (options asked must)).whole bytes ≡ reports must broken
     unfolding told_of
     recorded must = grind (arith, good_kept, lines_said, unrefused)
 
     -- the transfers of the recording, and the rules that they break
-    pub placed : AfterAll peer [] [] None all_events
+    pub placed : AfterAll asked [] [] None all_events
     placed =
         let told = reading_told (going true) (reading bytes) (reading_read bytes) in
-        from_start peer all_events
+        from_start asked all_events
         (follow_both [] every.events (end_events every.taken) told.follow (end_follows every told))
 
     pub same_transfers : transfers_in placed.after ≡ transfers bytes
@@ -363,8 +417,20 @@ module _ (peer : PeerLimits) where
         ∙ ap (λ (told : Told). told.transfers)
         (every_told all (reading bytes) (reading_read bytes) true clean.end)
 
-    pub carries : CarryAll placed.after
-    carries = carry_all placed.after (ap are_good same_transfers ∙ clean.good)
+    -- all of them are of the node of the first SESS_INIT
+    placed_from : All (IsFrom (sender_in bytes)) placed.after
+    placed_from =
+        let heads = heads_of (reading bytes) in
+        let contact = (reading bytes).contact in
+        let from : AllComeFrom (sender_in bytes) [] all_events =
+        rw (walk_is true contact heads)
+        (all_from contact heads (taken_by true [] heads) (heads_order bytes clean)) in
+        placed.from (sender_in bytes) from (All-nil (IsFrom (sender_in bytes)))
+
+    pub carries : CarryAll asked.own.items (sender_in bytes) placed.after
+    carries =
+        carry_all asked.own.items (sender_in bytes) placed.after placed_from
+        (ap are_good same_transfers ∙ clean.good)
 
     pub carried_bytes : unpacked bytes ≡ flat_map bytes_in carries.transfers
     carried_bytes =
@@ -372,15 +438,16 @@ module _ (peer : PeerLimits) where
 
   pub same_rules : (bytes : List ℕ)
       → ((bytes : List ℕ) → AreBytes bytes → IsReadingOf bytes (reading_of bytes))
-      → InputFits bytes → ((unpack_tool all).whole bytes).status ≡ 0 → HasSameBundleRules peer bytes
+      → InputFits bytes → ((unpack_tool all).whole bytes).status ≡ 0 → HasSameBundleRules asked bytes
   same_rules bytes spelled input is =
       let so = clean bytes is in
       let carried = carries bytes so in
       let joins = carried_bytes bytes so in
-      let divides = divided_as (unpacked bytes) carried.transfers carried.good joins
-      (fits bytes so (spelled bytes input.are) input) in
       record {
         transfers = carried.transfers;
+        are =
+            carried.are
+            ∙ ap (λ (ts : List Transfer). reverse ts) (same_transfers bytes so ∙ in_order bytes so);
         good = carried.good;
         unpacks = joins;
         broken = broken bytes so;
@@ -390,6 +457,8 @@ module _ (peer : PeerLimits) where
             ∙ ap of_bundles (sym (placed bytes so).rules)
             ∙ carried.broken;
         joined = λ must.
-            ap (λ (made : Made). whole_by made.stop made)
-            (told_as (bundle_check_telling must) (unpacked bytes) _ divides);
+            joined_rules (record { must = must; own = asked.own }) (unpacked bytes)
+            carried.transfers carried.good joins
+            (fits bytes so (spelled bytes input.are) input);
+        same = all_same asked.own.items (sender_in bytes) carried.transfers;
       }

@@ -3,7 +3,7 @@ use Rattle.std.proofs.Common.{◌≡◌, ℕ, List, ◌++◌, refl, ap, ◌∙�
 use Rattle.std.proofs.lemmas.{Grind.flat_map-append, Bool.cases_Bool}
 use Rattle.link_tool_option_types.specs.{declared.wanted.Wanted.Wanted, declared.pack.PackOptions.PackOptions}
 use Rattle.link_tool_option_types.specs.declared.blocks.BlockOptions.{BlockOptions}
-use Rattle.link_tool_option_types.specs.declared.check.CheckOptions.{CheckOptions}
+use Rattle.link_tool_option_types.specs.declared.check.{BundleCheckOptions.BundleCheckOptions, CheckOptions.CheckOptions}
 use Rattle.link_wire.specs.{Stream.{Entry, Stream, Reading, reading_of}, Codes.is_start}
 use Rattle.link_wire.specs.declared.message.Message.{Message}
 use Rattle.link_bundle_blocks.specs.Bundle.{judged_bundle, payload_of, bytes_of, payload_in}
@@ -284,21 +284,22 @@ check_prefix options bytes more = search (keeps_front, told_prefix)
 
 -- ---- bundles
 
-broken_front : (number offset : ℕ) (bundles more : List BundleWithInfo)
-    → IsFront (broken_bundles number offset bundles) (broken_bundles number offset (bundles ++ more))
+broken_front : (own : List ℕ) (number offset : ℕ) (bundles more : List BundleWithInfo)
+    → IsFront (broken_bundles own number offset bundles)
+    (broken_bundles own number offset (bundles ++ more))
 unfolding broken_bundles
-broken_front number offset [] more = front_none _
-broken_front number offset (bundle ∷ bundles) more =
-    front_after (broken_in number offset bundle) _ _
-    (broken_front (suc number) (offset + length bundle.bytes) bundles more)
+broken_front own number offset [] more = front_none _
+broken_front own number offset (bundle ∷ bundles) more =
+    front_after (broken_in own number offset bundle) _ _
+    (broken_front own (suc number) (offset + length bundle.bytes) bundles more)
 
-check_grows : (must : Bool) → Grows (bundle_check_telling must)
-check_grows must = grind (arith, broken_front, front_same, fronts_same, rules_front)
+check_grows : (options : BundleCheckOptions) → Grows (bundle_check_telling options)
+check_grows options = grind (arith, broken_front, front_same, fronts_same, rules_front)
 
-pub bundle_check_prefix : (must : Bool) (bytes more : List ℕ)
-    → HasPrefixTexts (bundle_check_tool must) bytes more
-bundle_check_prefix must bytes more =
-    bundles_prefix (bundle_check_telling must) (check_grows must) bytes more
+pub bundle_check_prefix : (options : BundleCheckOptions) (bytes more : List ℕ)
+    → HasPrefixTexts (bundle_check_tool options) bytes more
+bundle_check_prefix options bytes more =
+    bundles_prefix (bundle_check_telling options) (check_grows options) bytes more
 
 -- ---- `pack`
 

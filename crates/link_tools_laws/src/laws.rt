@@ -3,12 +3,12 @@
 //! The contract of each function is a law, and the function does nothing when it runs. The calls in
 //! it do nothing either: the proof of the law uses their contracts.
 
-ghost use Rattle.std.specs.Prelude.{◌≡◌, ◌<◌, ◌≤◌, ◌^◌, Bool, true, List, ℕ, length};
+ghost use Rattle.std.specs.Prelude.{◌≡◌, ◌<◌, ◌≤◌, ◌^◌, true, List, ℕ, length};
 ghost use Rattle.link_tool_option_types.specs.declared.wanted.Wanted.{Wanted};
 ghost use Rattle.link_tool_option_types.specs.declared.blocks.BlockOptions.{BlockOptions};
+ghost use Rattle.link_tool_option_types.specs.declared.check.BundleCheckOptions.{BundleCheckOptions};
 ghost use Rattle.link_tool_option_types.specs.declared.check.CheckOptions.{CheckOptions};
 ghost use Rattle.link_tool_option_types.specs.declared.pack.PackOptions.{PackOptions};
-ghost use Rattle.link_tool_option_types.specs.declared.limits.PeerLimits.{PeerLimits};
 ghost use Rattle.link_wire.specs.Bytes.{AreBytes};
 ghost use Rattle.link_tool_list.specs.Listing.{list_tool};
 ghost use Rattle.link_run.specs.Made.{tool_of};
@@ -47,8 +47,8 @@ pub fn sofar_is_prefix()
     ensures bundle_blocks { (bytes more : List ℕ) → HasPrefixTexts bundle_blocks_tool bytes more }
     ensures check { (options : CheckOptions) (bytes more : List ℕ)
         → HasPrefixTexts (check_tool options) bytes more }
-    ensures bundle_check { (must : Bool) (bytes more : List ℕ)
-        → HasPrefixTexts (bundle_check_tool must) bytes more }
+    ensures bundle_check { (options : BundleCheckOptions) (bytes more : List ℕ)
+        → HasPrefixTexts (bundle_check_tool options) bytes more }
     ensures pack { (options : PackOptions) (bytes more : List ℕ)
         → HasPrefixTexts (pack_tool options) bytes more }
 {}
@@ -86,13 +86,17 @@ pub fn unpack_of_pack(options: &PackOptions, bytes: &[u8])
 ///
 /// Let the input be packed without a fault, and let the limits of the peer be no less than those of
 /// packing. Let the node ID keep the rules `node-id` and `node-name`, and let the keepalive
-/// interval keep the rule `keepalive-interval`. Then `check` of the stream has a line for each rule
-/// that a bundle of the input breaks, and no other line.
+/// interval keep the rule `keepalive-interval`. Then `check` of the stream finds the rules broken
+/// that `check --bundles` with the same `--own` finds broken in the input, and no others.
+///
+/// The levels are the same, with one exception. Without `--own`, `primary-check` is a `should` in
+/// the input, whatever its level is in the stream. In the stream, the sender is the node of the
+/// packing.
 #[tactic(auto, using(crate::proofs::Packed::is_packed, crate::proofs::PackedRules::breaks_no_more))]
 pub fn check_of_pack(options: &PackOptions, bytes: &[u8])
-    ensures { (peer : PeerLimits) → ((pack_tool options.now).whole bytes.now).status ≡ 0
-        → IsWithinPeerLimits options.now peer → OptionsKeepInitRules options.now
-        → BreaksNoMoreThanItsBundles peer bytes.now
+    ensures { (asked : CheckOptions) → ((pack_tool options.now).whole bytes.now).status ≡ 0
+        → IsWithinPeerLimits options.now asked.peer → OptionsKeepInitRules options.now
+        → BreaksNoMoreThanItsBundles asked options.now.node.items bytes.now
         ((pack_tool options.now).whole bytes.now).texts.output }
 {
     options_fit(options);
@@ -134,26 +138,32 @@ pub fn bundles_of_unpack(bytes: &[u8])
 /// The bundles that `unpack` joins break the same rules as in the recording.
 ///
 /// Let `unpack` without options have status 0 for a recording. Then every transfer is over and
-/// good, and there is no fault. For the recording, `check` may write lines of rules of bundles. For
-/// the output of `unpack`, `check --bundles` writes these lines, in the same order. Only two things
-/// differ: the offset, and the number of the bundle, which replaces the ID of its transfer.
+/// good, and there is no fault. For the recording, `check` may find rules of bundles broken. For
+/// the output of `unpack`, `check --bundles` with the same `--own` finds the same ones, in the same
+/// order. Each line has another offset, and the number of the bundle replaces the ID of its
+/// transfer.
+///
+/// The levels are the same, with two exceptions. Without `--own`, `primary-check` is a `should` in
+/// the output of `unpack`, whatever its level is in the recording. The rules of a bundle are a
+/// `should` in the recording if its transfer has an extension item of an unknown type.
 #[tactic(auto, using(crate::proofs::SameRules::same_rules))]
 pub fn check_of_unpack(bytes: &[u8])
-    ensures { (peer : PeerLimits) → ((unpack_tool all).whole bytes.now).status ≡ 0
-        → HasSameBundleRules peer bytes.now }
+    ensures { (asked : CheckOptions) → ((unpack_tool all).whole bytes.now).status ≡ 0
+        → HasSameBundleRules asked bytes.now }
 {
     input_fits(bytes);
     exactly_one_reading();
 }
 
-/// A recording that breaks no rule of level `must` is unpacked with three kinds of faults at most.
+/// A recording that breaks no rule of level `must` is unpacked with four kinds of faults at most.
 ///
-/// Let `check --must` have status 0. Then `unpack` finds no fault of the wire, with `--keep-going`
-/// and without. The only faults in its report are abandoned transfers, data that may be a bundle
-/// which this toolkit does not read, and a second SESS_INIT.
+/// Let `check --must` have status 0, with any `--own` or without. Then `unpack` finds no fault of
+/// the wire, with `--keep-going` and without. Its report has only these faults: abandoned
+/// transfers, data that may be a bundle which this toolkit does not read, and a second SESS_INIT.
+/// If a transfer has an extension item of an unknown type, its data may have any fault.
 pub fn unpack_of_checked()
-    ensures { (peer : PeerLimits) (bytes : List ℕ)
-        → ((check_tool (record { must = true; peer = peer })).whole bytes).status ≡ 0
+    ensures { (asked : CheckOptions) (bytes : List ℕ)
+        → ((check_tool (record asked { must = true })).whole bytes).status ≡ 0
         → HasOnlyAllowedFaults bytes }
 {}
 

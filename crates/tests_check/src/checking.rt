@@ -1,5 +1,6 @@
 //! Tests that check worked inputs, at each pace of the devices and step by step.
 
+use crate::rows::nodes::{OWN, SENDERS, UNKNOWN};
 use crate::rows::{
     BETWEEN, BUNDLES, FAULTS, MOST_LINES, NOT_READ, ONE_BUNDLE, OUT_OF_ORDER, Row, WHOLE,
 };
@@ -58,6 +59,21 @@ fn faults(rt: HostRuntime) -> Result<(), Fail> {
 #[test]
 fn bundles(rt: HostRuntime) -> Result<(), Fail> {
     all_given(rt.alloc(), &BUNDLES)
+}
+
+#[test]
+fn of_one_node(rt: HostRuntime) -> Result<(), Fail> {
+    all_given(rt.alloc(), &OWN)
+}
+
+#[test]
+fn of_the_sender(rt: HostRuntime) -> Result<(), Fail> {
+    all_given(rt.alloc(), &SENDERS)
+}
+
+#[test]
+fn beside_unknown_parts(rt: HostRuntime) -> Result<(), Fail> {
+    all_given(rt.alloc(), &UNKNOWN)
 }
 
 /// Checks the result of the row if the input comes in pieces of each size. Those of half of it or

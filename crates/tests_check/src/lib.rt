@@ -10,6 +10,8 @@ mod failures;
 #[cfg(test)]
 mod message_rules;
 #[cfg(test)]
+mod nodes;
+#[cfg(test)]
 mod rows;
 #[cfg(test)]
 mod rule_lines;

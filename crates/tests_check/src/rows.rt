@@ -2,7 +2,10 @@
 //!
 //! They are runs that tests/python/rows has, with the same names.
 
-use link_tools::{CheckOptions, PeerLimits};
+pub(crate) mod nodes;
+
+use link_tools::PeerLimits;
+use tests_common::judging::{ALL_RULES, ALL_RULES_OF_BUNDLES, BundleJudging, Judging};
 use tests_common::running::Tool;
 use tests_common::stream::{CONTACT, NO_ITEMS, NODE, PARAMETERS, Part, SESSION};
 
@@ -17,44 +20,35 @@ pub struct Row {
     pub status: u8,
 }
 
-/// Limits of the peer that are not known.
-const NO_LIMITS: PeerLimits = PeerLimits {
-    segment: None,
-    transfer: None,
-};
-
 /// All rules, but for those of the peer's limits.
-const ALL: Tool = Tool::Check(CheckOptions {
-    must: false,
-    peer: NO_LIMITS,
-});
+const ALL: Tool = Tool::Check(ALL_RULES);
 
 /// The rules of level `must`.
-const MUST: Tool = Tool::Check(CheckOptions {
+const MUST: Tool = Tool::Check(Judging {
     must: true,
-    peer: NO_LIMITS,
+    ..ALL_RULES
 });
 
 /// All rules, for a peer that takes segments of 32 bytes and transfers of 31 bytes.
-const LIMITED: Tool = Tool::Check(CheckOptions {
-    must: false,
+const LIMITED: Tool = Tool::Check(Judging {
     peer: PeerLimits {
         segment: Some(32),
         transfer: Some(31),
     },
+    ..ALL_RULES
 });
 
 /// All rules, for a peer that takes transfers of 8 bytes.
-const SHORT_TRANSFERS: Tool = Tool::Check(CheckOptions {
-    must: false,
+const SHORT_TRANSFERS: Tool = Tool::Check(Judging {
     peer: PeerLimits {
         segment: None,
         transfer: Some(8),
     },
+    ..ALL_RULES
 });
 
 /// All rules of bundles.
-const BUNDLES_ALONE: Tool = Tool::BundleCheck { must: false };
+const BUNDLES_ALONE: Tool = Tool::BundleCheck(ALL_RULES_OF_BUNDLES);
 
 /// The first 9 bytes of a bundle of 33 bytes that breaks no rule.
 const CLEAN_FRONT: &[u8] = b"\x9f\x89\x07\x00\x01\x82\x02\x82\x02";
@@ -79,21 +73,27 @@ const TO_PAYLOAD: &[u8] = b"\x42\xac\x4c\x85\x01\x01\x00\x00";
 /// Tag 55799 (RFC 8949 section 3.4.6).
 const TAG: &[u8] = b"\xd9\xd9\xf7";
 
-/// A bundle that breaks 30 rules, which is as many as one bundle can break: 178 bytes.
-const EVERY_RULE: &[&[u8]] = &[
-    b"\x9f\x88\x18\x07\x19\x40\x0a\x00\x82\x01\x61\x6e\x82\x01\x00\x82\x01\x00\x82\x01\x00\x04",
-    b"\x85\x06\x02\x00\x00\x43\x82\x01\x00",
-    b"\x85\x06\x03\x00\x00\x41\x00\x85\x06\x04\x00\x00\x41\x9f",
-    b"\x85\x07\x05\x00\x00\x41\x05\x85\x07\x06\x00\x00\x41\x06",
-    b"\x85\x0a\x07\x0a\x00\x43\x82\x00\x01\x85\x0a\x08\x00\x00\x43\x82\x09\x00",
-    b"\x85\x09\x09\x00\x00\x40",
-    b"\x85\x0b\x0a\x00\x00\x4a\x82\x09\x0b\x01\x02\x82\x02\x82\x01\x01",
-    b"\x85\x0c\x0b\x10\x00\x4f\x83\x00\x09\x0b\x00\x00\x82\x02\x82\x01\x01\x83\x80\x80\x80",
-    b"\x85\x0c\x0c\x00\x00\x4b\x81\x09\x01\x00\x82\x02\x82\x01\x01\x81\x80",
-    b"\x85\x0b\x0d\x00\x00\x48\x80\x01\x00\x82\x02\x82\x01\x01",
-    b"\x85\x01\x01\x00\x00\x54\x82\x01\x84\x84\x82\xf5\x07\x81\xf5\x81\xf4\x81\xf4\x11",
-    b"\x82\x01\x00\x82\x01\x00\xff",
-];
+/// The beginning and the end of a bundle that breaks 29 rules, between which a block is missing.
+const MOST_FRONT: &[u8] =
+    b"\x9f\x88\x18\x07\x19\x40\x0a\x00\x82\x01\x61\x6e\x82\x01\x00\x82\x01\x00\x82\x01\x00\x04\
+    \x85\x06\x02\x00\x00\x43\x82\x01\x00\
+    \x85\x06\x03\x00\x00\x41\x00\x85\x06\x04\x00\x00\x41\x9f\
+    \x85\x07\x05\x00\x00\x41\x05\x85\x07\x06\x00\x00\x41\x06\
+    \x85\x0a\x07\x0a\x00\x43\x82\x00\x01\x85\x0a\x08\x00\x00\x43\x82\x09\x00";
+
+const MOST_BACK: &[u8] = b"\x85\x0b\x0a\x00\x00\x4a\x82\x09\x0b\x01\x02\x82\x02\x82\x01\x01\
+    \x85\x0c\x0b\x10\x00\x4f\x83\x00\x09\x0b\x00\x00\x82\x02\x82\x01\x01\x83\x80\x80\x80\
+    \x85\x0c\x0c\x00\x00\x4b\x81\x09\x01\x00\x82\x02\x82\x01\x01\x81\x80\
+    \x85\x0b\x0d\x00\x00\x48\x80\x01\x00\x82\x02\x82\x01\x01\
+    \x85\x01\x01\x00\x00\x55\x82\x01\x84\x84\x82\xf5\x07\x81\xf5\x81\xf4\x81\xf4\x18\xff\
+    \x82\x01\x00\x82\x01\x00\xff";
+
+/// A bundle that breaks 30 rules, which is as many as one bundle can break: 179 bytes. It has a
+/// block of an unknown type.
+const EVERY_RULE: &[&[u8]] = &[MOST_FRONT, b"\x85\x09\x09\x00\x00\x40", MOST_BACK];
+
+/// The same bundle with a third age in place of this block: 180 bytes.
+const KNOWN_BLOCKS: &[&[u8]] = &[MOST_FRONT, b"\x85\x07\x09\x00\x00\x41\x07", MOST_BACK];
 
 /// A SESS_TERM without flags (RFC 9174 section 6.1).
 const TERM: &[&[u8]] = &[b"\x05\x00\x00"];
@@ -191,12 +191,12 @@ pub const BETWEEN: Row = Row {
 /// The same START of a bundle that breaks every rule. No step writes more lines.
 pub static MOST_LINES: [Row; 1] = [Row {
     name: "the most lines of a step",
-    tool: Tool::Check(CheckOptions {
-        must: false,
+    tool: Tool::Check(Judging {
         peer: PeerLimits {
-            segment: Some(177),
+            segment: Some(178),
             transfer: Some(0),
         },
+        ..ALL_RULES
     }),
     input: &[
         Part::Bytes(SESSION),
@@ -208,7 +208,7 @@ pub static MOST_LINES: [Row; 1] = [Row {
             b"\x01\x0b\x00\x00\x00\x00\x00\x00\x00\x05\x00\x00\x00\x1f",
             b"\x00\x00\x01\x00\x08\x00\x00\x00\x00\x00\x00\x00\x09",
             b"\x00\x00\x01\x00\x08\x00\x00\x00\x00\x00\x00\x00\x09",
-            b"\x10\x00\x02\x00\x00\x00\x00\x00\x00\x00\x00\x00\xb2",
+            b"\x10\x00\x02\x00\x00\x00\x00\x00\x00\x00\x00\x00\xb3",
         ]),
         Part::Bytes(EVERY_RULE),
     ],
@@ -221,41 +221,41 @@ pub static MOST_LINES: [Row; 1] = [Row {
         b"88 should interleaved id=5 open=6\n",
         b"88 must segment-flags flags=0b\n",
         b"88 must transfer-id id=5\n",
-        b"88 must peer-segment length=178 limit=177\n",
-        b"88 must peer-transfer length=178 limit=0\n",
+        b"88 must peer-segment length=179 limit=178\n",
+        b"88 must peer-transfer length=179 limit=0\n",
         b"88 should item-type item=2 type=0002\n",
         b"88 must after-reject type=01\n",
         b"88 must length-item transfer=5\n",
         b"88 should length-of-one-segment transfer=5\n",
-        b"88 must long-head transfer=5 byte=2\n",
+        b"88 should long-head transfer=5 byte=2\n",
         b"88 should bundle-flags transfer=5 flags=400a\n",
-        b"88 must primary-check transfer=5\n",
-        b"88 must anonymous transfer=5 flags=400a\n",
-        b"88 must record-reports transfer=5 flags=400a\n",
-        b"88 must block-reports transfer=5 block=7\n",
+        b"88 should primary-check transfer=5\n",
+        b"88 should anonymous transfer=5 flags=400a\n",
+        b"88 should record-reports transfer=5 flags=400a\n",
+        b"88 should block-reports transfer=5 block=7\n",
         b"88 should block-flags transfer=5 block=7 flags=0a\n",
-        b"88 must dtn-name transfer=5 of=destination\n",
-        b"88 must age transfer=5 blocks=2\n",
-        b"88 must previous-node transfer=5 blocks=3\n",
-        b"88 must hop-count transfer=5 blocks=2 limit=0\n",
-        b"88 must confidential-primary transfer=5 block=11\n",
+        b"88 should dtn-name transfer=5 of=destination\n",
+        b"88 should age transfer=5 blocks=2\n",
+        b"88 should previous-node transfer=5 blocks=3\n",
+        b"88 should hop-count transfer=5 blocks=2 limit=0\n",
+        b"88 should confidential-primary transfer=5 block=11\n",
         b"88 should hops transfer=5 limit=0 count=1\n",
-        b"88 must block-data transfer=5 block=3 byte=37\n",
+        b"88 should block-data transfer=5 block=3 byte=37\n",
         b"88 should data-not-read transfer=5 block=4 byte=44\n",
-        b"88 must previous-node-id transfer=5 block=2\n",
+        b"88 should previous-node-id transfer=5 block=2\n",
         b"88 should expired transfer=5 lifetime=4 age=5\n",
         b"88 should block-type transfer=5 block=9 type=9\n",
-        b"88 must report-times transfer=5\n",
-        b"88 should report-reason transfer=5 reason=17\n",
+        b"88 should report-times transfer=5\n",
+        b"88 should report-reason transfer=5 reason=255\n",
         b"88 should report-source transfer=5\n",
-        b"88 must security-targets transfer=5 block=13\n",
-        b"88 must security-twice transfer=5 block=12 target=9\n",
-        b"88 must security-flags transfer=5 block=10 flags=02\n",
+        b"88 should security-targets transfer=5 block=13\n",
+        b"88 should security-twice transfer=5 block=12 target=9\n",
+        b"88 should security-flags transfer=5 block=10 flags=02\n",
         b"88 should security-context transfer=5 block=11 context=0\n",
-        b"88 must integrity-target transfer=5 block=10 target=11\n",
-        b"88 must confidential-target transfer=5 block=11 target=11\n",
-        b"88 must confidential-flags transfer=5 block=11 flags=10\n",
-        b"88 must confidential-context transfer=5 block=12\n",
+        b"88 should integrity-target transfer=5 block=10 target=11\n",
+        b"88 should confidential-target transfer=5 block=11 target=11\n",
+        b"88 should confidential-flags transfer=5 block=11 flags=10\n",
+        b"88 should confidential-context transfer=5 block=12\n",
         b"88 should shared-target transfer=5 block=10 target=9\n",
     ],
     report: &[],
@@ -482,12 +482,12 @@ pub static OUT_OF_ORDER: [Row; 6] = [
 /// A segment whose last byte is missing.
 pub const CUT: Row = Row {
     name: "a segment that is cut",
-    tool: Tool::Check(CheckOptions {
-        must: false,
+    tool: Tool::Check(Judging {
         peer: PeerLimits {
             segment: Some(32),
             transfer: Some(0),
         },
+        ..ALL_RULES
     }),
     input: &[
         Part::Bytes(SESSION),
@@ -539,7 +539,7 @@ pub const ONE_BUNDLE: Row = Row {
     output: &[
         b"0 must long-head bundle=0 byte=2\n",
         b"0 should bundle-flags bundle=0 flags=400a\n",
-        b"0 must primary-check bundle=0\n",
+        b"0 should primary-check bundle=0\n",
         b"0 must anonymous bundle=0 flags=400a\n",
         b"0 must record-reports bundle=0 flags=400a\n",
         b"0 must block-reports bundle=0 block=7\n",
@@ -548,24 +548,24 @@ pub const ONE_BUNDLE: Row = Row {
         b"0 must age bundle=0 blocks=2\n",
         b"0 must previous-node bundle=0 blocks=3\n",
         b"0 must hop-count bundle=0 blocks=2 limit=0\n",
-        b"0 must confidential-primary bundle=0 block=11\n",
+        b"0 should confidential-primary bundle=0 block=11\n",
         b"0 should hops bundle=0 limit=0 count=1\n",
-        b"0 must block-data bundle=0 block=3 byte=37\n",
+        b"0 should block-data bundle=0 block=3 byte=37\n",
         b"0 should data-not-read bundle=0 block=4 byte=44\n",
-        b"0 must previous-node-id bundle=0 block=2\n",
+        b"0 should previous-node-id bundle=0 block=2\n",
         b"0 should expired bundle=0 lifetime=4 age=5\n",
         b"0 should block-type bundle=0 block=9 type=9\n",
-        b"0 must report-times bundle=0\n",
-        b"0 should report-reason bundle=0 reason=17\n",
+        b"0 should report-times bundle=0\n",
+        b"0 should report-reason bundle=0 reason=255\n",
         b"0 should report-source bundle=0\n",
-        b"0 must security-targets bundle=0 block=13\n",
-        b"0 must security-twice bundle=0 block=12 target=9\n",
-        b"0 must security-flags bundle=0 block=10 flags=02\n",
+        b"0 should security-targets bundle=0 block=13\n",
+        b"0 should security-twice bundle=0 block=12 target=9\n",
+        b"0 should security-flags bundle=0 block=10 flags=02\n",
         b"0 should security-context bundle=0 block=11 context=0\n",
-        b"0 must integrity-target bundle=0 block=10 target=11\n",
-        b"0 must confidential-target bundle=0 block=11 target=11\n",
-        b"0 must confidential-flags bundle=0 block=11 flags=10\n",
-        b"0 must confidential-context bundle=0 block=12\n",
+        b"0 should integrity-target bundle=0 block=10 target=11\n",
+        b"0 should confidential-target bundle=0 block=11 target=11\n",
+        b"0 should confidential-flags bundle=0 block=11 flags=10\n",
+        b"0 should confidential-context bundle=0 block=12\n",
         b"0 should shared-target bundle=0 block=10 target=9\n",
     ],
     report: &[],
@@ -660,7 +660,10 @@ pub static BUNDLES: [Row; 7] = [
     },
     Row {
         name: "must, of a bundle",
-        tool: Tool::BundleCheck { must: true },
+        tool: Tool::BundleCheck(BundleJudging {
+            must: true,
+            ..ALL_RULES_OF_BUNDLES
+        }),
         input: &[Part::Bytes(&[WRONG_FRONT, WRONG_BACK])],
         output: &[b"0 must age bundle=0 blocks=0\n"],
         report: &[],

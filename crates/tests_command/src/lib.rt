@@ -2,6 +2,8 @@
 #![tactic(auto)]
 
 #[cfg(test)]
+mod node_ids;
+#[cfg(test)]
 mod options;
 #[cfg(test)]
 mod texts;

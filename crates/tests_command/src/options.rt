@@ -1,8 +1,10 @@
 //! Tests of the command line on tables of words.
 
-use link_tools::{BlockOptions, CheckOptions, Options, PackOptions, PeerLimits, Wanted};
+use link_tool_option_types::{
+    BlockOptions, BundleCheckOptions, CheckOptions, NodeId, Options, PackOptions, PeerLimits,
+    Wanted,
+};
 use link_tools_command::{Invocation, UsageFault, options};
-use link_wire::NodeId;
 use std::alloc::{AllocError, Global};
 use std::process::Abort;
 use std::test::Fail;
@@ -23,6 +25,7 @@ pub(crate) fn name_of(outcome: &Result<Invocation, UsageFault>) -> &'static str 
         Err(UsageFault::Help(_)) => "help",
         Err(UsageFault::Words(_)) => "words",
         Err(UsageFault::NodeTooLong) => "node too long",
+        Err(UsageFault::OwnNamesNoNode) => "own names no node",
         Err(UsageFault::MixedInputs) => "mixed inputs",
         Err(UsageFault::LimitedBundles) => "limited bundles",
         Err(UsageFault::Memory) => "memory",
@@ -38,7 +41,12 @@ fn has_text(outcome: &Result<Invocation, UsageFault>) -> bool {
 }
 
 /// Checks that a line has the expected outcome, by its name in `name_of`, and with its text.
-fn comes_to(rt: &impl Abort, alloc: Global, expected: &str, line: &[&str]) -> Result<(), Fail> {
+pub(crate) fn comes_to(
+    rt: &impl Abort,
+    alloc: Global,
+    expected: &str,
+    line: &[&str],
+) -> Result<(), Fail> {
     let words = words_of(alloc, line)?;
     let outcome = options(alloc, words.as_slice());
     assert!(rt;
@@ -121,7 +129,7 @@ fn all_of_pack() -> Result<PackOptions, Fail> {
 }
 
 /// Lines with a wrong word.
-static WRONG_WORDS: [&[&str]; 51] = [
+static WRONG_WORDS: [&[&str]; 58] = [
     &[],
     &["lists"],
     &["help", "lists"],
@@ -158,10 +166,16 @@ static WRONG_WORDS: [&[&str]; 51] = [
     &["check", "--peer-transfer", "1", "--peer-transfer", "1"],
     &["check", "--must", "--must"],
     &["check", "--must=true"],
+    &["check", "--own"],
+    &["check", "--own", "-x"],
+    &["check", "--own", "ipn:1.0", "--own", "ipn:1.0"],
+    &["check", "--own", "ipn:1.0", "--bundles", "--own=ipn:1.0"],
     &["check", "--bundles", "--bundles"],
     &["check", "--keep-going"],
     &["check", "--transfer", "0"],
     &["check", "a", "b"],
+    &["blocks", "--own", "ipn:1.0"],
+    &["unpack", "--own=ipn:1.0"],
     &["blocks", "--must"],
     &["blocks", "--peer-segment", "1"],
     &["pack", "--node", "x", "--peer-segment", "0"],
@@ -170,6 +184,7 @@ static WRONG_WORDS: [&[&str]; 51] = [
     &["pack", "--node", "x", "--keepalive", "six"],
     &["pack", "--node", "x", "--node", "x"],
     &["pack", "--node", "-x"],
+    &["pack", "--node", "x", "--own", "ipn:1.0"],
     &["pack", "--node", "x", "--unknown"],
     &["pack", "--node", "x", "--keep-going"],
     &["pack", "--node", "x", "a", "b"],
@@ -346,10 +361,24 @@ fn mixed_inputs(rt: HostRuntime) -> Result<(), Fail> {
     all_come_to(&rt, rt.alloc(), "mixed inputs", &MIXED_INPUTS)
 }
 
-/// The options of `check` for a recording.
-fn judged(must: bool, segment: Option<u64>, transfer: Option<u64>) -> Options {
-    let peer = PeerLimits { segment, transfer };
-    Options::Check(CheckOptions { must, peer })
+/// The options of `check` for a recording. An empty `own` is none.
+fn judged(
+    must: bool,
+    own: &str,
+    segment: Option<u64>,
+    transfer: Option<u64>,
+) -> Result<Options, Fail> {
+    Ok(Options::Check(CheckOptions {
+        must,
+        own: NodeId::try_from(own.as_bytes())?,
+        peer: PeerLimits { segment, transfer },
+    }))
+}
+
+/// The options of `check` for bundles. An empty `own` is none.
+fn judged_bundles(must: bool, own: &str) -> Result<Options, Fail> {
+    let own = NodeId::try_from(own.as_bytes())?;
+    Ok(Options::BundleCheck(BundleCheckOptions { must, own }))
 }
 
 /// Lines of `check`, whether each asks for `must` alone, and the limits that it gives.
@@ -389,7 +418,7 @@ static OF_CHECK: [(&[&str], bool, Option<u64>, Option<u64>); 9] = [
 #[test]
 fn options_of_check(rt: HostRuntime) -> Result<(), Fail> {
     for &(line, must, segment, transfer) in &OF_CHECK {
-        wants(&rt, rt.alloc(), line, &judged(must, segment, transfer))?;
+        wants(&rt, rt.alloc(), line, &judged(must, "", segment, transfer)?)?;
     }
     Ok(())
 }
@@ -406,16 +435,75 @@ static CHECK_OF_BUNDLES: [(&[&str], bool); 5] = [
 #[test]
 fn check_of_bundles(rt: HostRuntime) -> Result<(), Fail> {
     for &(line, must) in &CHECK_OF_BUNDLES {
-        wants(&rt, rt.alloc(), line, &Options::BundleCheck { must })?;
+        wants(&rt, rt.alloc(), line, &judged_bundles(must, "")?)?;
     }
     Ok(())
 }
 
+/// Lines of `check` with `--own`, and the node ID that each gives.
+static OWN_OF_CHECK: [(&[&str], &str); 7] = [
+    (&["check", "--own", "ipn:1.0"], "ipn:1.0"),
+    (&["check", "f", "--own=ipn:1.2.0"], "ipn:1.2.0"),
+    (&["check", "--own", "IPN:01.7", "f"], "IPN:01.7"),
+    (&["check", "--own", "ipn:0.0"], "ipn:0.0"),
+    (&["check", "--own", "dtn://node/"], "dtn://node/"),
+    (&["check", "--own", "dtn:///"], "dtn:///"),
+    (&["check", "--", "--own"], ""),
+];
+
+/// Lines of `check --bundles` with `--own`, and the node ID that each gives.
+static OWN_OF_BUNDLES: [(&[&str], &str); 3] = [
+    (&["check", "--bundles", "--own", "ipn:1.0"], "ipn:1.0"),
+    (&["check", "--own=dtn://n/x", "f", "--bundles"], "dtn://n/x"),
+    (&["check", "--bundles", "--", "--own"], ""),
+];
+
+#[test]
+fn own_of_check(rt: HostRuntime) -> Result<(), Fail> {
+    for &(line, own) in &OWN_OF_CHECK {
+        wants(&rt, rt.alloc(), line, &judged(false, own, None, None)?)?;
+    }
+    for &(line, own) in &OWN_OF_BUNDLES {
+        wants(&rt, rt.alloc(), line, &judged_bundles(false, own)?)?;
+    }
+    Ok(())
+}
+
+/// Lines of `check` with a value of `--own` that names no node.
+static OWN_OF_NO_NODE: [&[&str]; 14] = [
+    &["check", "--own", ""],
+    &["check", "--own="],
+    &["check", "--own", "", "--bundles"],
+    &["check", "--own", "dtn:none"],
+    &["check", "--own", "DTN:NONE"],
+    &["check", "--bundles", "--own", "dtn:none"],
+    &["check", "--own", "ipn:!", "f"],
+    &["check", "--own", "ipn:1"],
+    &["check", "--own", "ipn:1.2.3.0"],
+    &["check", "--own", "dtn:node"],
+    &["check", "--own", "https://node/"],
+    &["check", "--own", "1.0"],
+    &["check", "--own", "ipn:1.0 "],
+    &["check", "--must", "--own", "node", "--peer-segment", "1"],
+];
+
+#[test]
+fn own_of_no_node(rt: HostRuntime) -> Result<(), Fail> {
+    all_come_to(&rt, rt.alloc(), "own names no node", &OWN_OF_NO_NODE)
+}
+
 /// Lines of `check` with `--bundles` and a limit of the peer.
-static LIMITED_BUNDLES: [&[&str]; 4] = [
+static LIMITED_BUNDLES: [&[&str]; 5] = [
     &["check", "--bundles", "--peer-segment", "1"],
     &["check", "--peer-transfer=0", "--bundles"],
     &["check", "--must", "--bundles", "--peer-transfer", "7", "f"],
+    &[
+        "check",
+        "--own=ipn:1.0",
+        "--bundles",
+        "--peer-transfer",
+        "7",
+    ],
     &[
         "check",
         "--bundles",
@@ -426,7 +514,7 @@ static LIMITED_BUNDLES: [&[&str]; 4] = [
     ],
 ];
 
-/// `check --bundles` is accepted with `--must`, and not with a limit of the peer.
+/// `check --bundles` is accepted with `--must` and `--own`, and not with a limit of the peer.
 #[test]
 fn limited_bundles(rt: HostRuntime) -> Result<(), Fail> {
     all_come_to(&rt, rt.alloc(), "limited bundles", &LIMITED_BUNDLES)
@@ -514,28 +602,6 @@ fn files(rt: HostRuntime) -> Result<(), Fail> {
         names_file(&rt, rt.alloc(), line, file)?;
     }
     Ok(())
-}
-
-/// A node ID of this many characters, and one byte more.
-fn node_of(alloc: Global, size: usize) -> Result<String, AllocError> {
-    let mut node = String::from_str(alloc, "é")?;
-    for _ in 1..size {
-        node.push_str("n")?;
-    }
-    Ok(node)
-}
-
-/// Checks the outcome of a node ID of this many characters.
-fn node_comes_to(rt: &impl Abort, alloc: Global, size: usize, expected: &str) -> Result<(), Fail> {
-    let node = node_of(alloc, size)?;
-    comes_to(rt, alloc, expected, &["pack", "--node", node.as_str()])
-}
-
-#[test]
-fn node_ids(rt: HostRuntime) -> Result<(), Fail> {
-    node_comes_to(&rt, rt.alloc(), 1023, "taken")?;
-    node_comes_to(&rt, rt.alloc(), 1024, "node too long")?;
-    node_comes_to(&rt, rt.alloc(), 2000, "node too long")
 }
 
 /// The result of `options`. `None`: there was no memory, and a line on standard output says so.
@@ -666,13 +732,15 @@ fn memory_of_check(rt: HostRuntime) -> Result<(), Fail> {
         &[
             "check",
             "--must",
+            "--own",
+            "ipn:1.0",
             "--peer-segment",
             "8",
             "--peer-transfer",
             "9",
             "f",
         ],
-        &judged(true, Some(8), Some(9)),
+        &judged(true, "ipn:1.0", Some(8), Some(9))?,
         Some("f"),
     )
 }

@@ -56,11 +56,14 @@ static HELP_TEXTS: [(&[&str], &[&str]); 7] = [
         &[
             "Usage: tcpclkit check [OPTIONS] [FILE]",
             "--must",
+            "--own <NODE>",
+            "such as ipn:1.0 [default: those of every node]",
             "--peer-segment <N>",
             "0 to 18446744073709551615 bytes [default: not judged]",
             "--peer-transfer <N>",
             "0 to 18446744073709551615 bytes [default: not judged]",
             "--bundles",
+            "Rules of messages bind the sender of the recording.",
             "Exit status:",
             "Example:",
             "38 must age transfer=0 blocks=0",
@@ -180,6 +183,8 @@ fn ends_of_the_program(rt: HostRuntime) {
     ends(&rt, &UsageFault::Words(String::new(rt.alloc())), (2, ""));
     let text = "tcpclkit: node id longer than 1024 bytes";
     ends(&rt, &UsageFault::NodeTooLong, (2, text));
+    let text = "tcpclkit: --own names no node";
+    ends(&rt, &UsageFault::OwnNamesNoNode, (2, text));
     let text = "tcpclkit: --bundles goes with no other option";
     ends(&rt, &UsageFault::MixedInputs, (2, text));
     let text = "tcpclkit: --bundles goes with neither --peer-segment nor --peer-transfer";

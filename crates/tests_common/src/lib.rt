@@ -9,6 +9,7 @@ pub mod checks;
 mod device;
 pub mod failures;
 mod holding;
+pub mod judging;
 mod pace;
 pub mod packing;
 pub mod rows;

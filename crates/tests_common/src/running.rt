@@ -3,13 +3,14 @@
 ghost use Rattle.std.specs.Prelude.{◌≡◌, ◌<◌, false};
 
 use crate::checks::{exits, reported, wrote};
+use crate::judging::{BundleJudging, Judging};
 use crate::packing::Packing;
 use crate::stepping::ended;
 use crate::{Failing, HoldingReader, TestReader, TestWriter};
 use link_tools::{
-    BlockOptions, CheckOptions, RunEnd, Status, Wanted, blocks, blocks_run, bundle_blocks,
-    bundle_blocks_run, bundle_check, bundle_check_run, check, check_run, cutter_for, list,
-    list_run, pack, pack_run, unpack, unpack_run,
+    BlockOptions, RunEnd, Status, Wanted, blocks, blocks_run, bundle_blocks, bundle_blocks_run,
+    bundle_check, bundle_check_run, check, check_run, cutter_for, list, list_run, pack, pack_run,
+    unpack, unpack_run,
 };
 use link_wire::{InDevice, IoFault, OutDevice};
 use std::alloc::Global;
@@ -25,8 +26,8 @@ pub enum Tool {
     Unpack(Wanted),
     Blocks(BlockOptions),
     BundleBlocks,
-    Check(CheckOptions),
-    BundleCheck { must: bool },
+    Check(Judging),
+    BundleCheck(BundleJudging),
     Pack(Packing),
 }
 
@@ -48,8 +49,8 @@ impl Tool {
             Tool::Unpack(wanted) => unpack(wanted, reader, output, report),
             Tool::Blocks(options) => blocks(options, reader, output, report),
             Tool::BundleBlocks => bundle_blocks(reader, output, report),
-            Tool::Check(options) => check(options, reader, output, report),
-            Tool::BundleCheck { must } => bundle_check(must, reader, output, report),
+            Tool::Check(judging) => check(judging.options(), reader, output, report),
+            Tool::BundleCheck(judging) => bundle_check(judging.options(), reader, output, report),
             Tool::Pack(packing) => {
                 let options = packing.options();
                 pack(cutter_for(alloc, &options), options, reader, output, report)
@@ -78,9 +79,14 @@ impl Tool {
             Tool::Unpack(wanted) => ended(unpack_run(wanted, reader, output, report), steps),
             Tool::Blocks(options) => ended(blocks_run(options, reader, output, report), steps),
             Tool::BundleBlocks => ended(bundle_blocks_run(reader, output, report), steps),
-            Tool::Check(options) => ended(check_run(options, reader, output, report), steps),
-            Tool::BundleCheck { must } => {
-                ended(bundle_check_run(must, reader, output, report), steps)
+            Tool::Check(judging) => {
+                ended(check_run(judging.options(), reader, output, report), steps)
+            }
+            Tool::BundleCheck(judging) => {
+                ended(
+                    bundle_check_run(judging.options(), reader, output, report),
+                    steps,
+                )
             }
             Tool::Pack(packing) => packed(alloc, packing, steps, reader, output, report),
         }

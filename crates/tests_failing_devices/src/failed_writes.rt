@@ -4,12 +4,13 @@
 
 ghost use Rattle.std.specs.Prelude.{◌≡◌, ◌<◌, true, false, [], None, MatchResult};
 
-use link_tools::{BlockOptions, CheckOptions, PeerLimits, Status};
+use link_tools::{BlockOptions, Status};
 use link_wire::{DeviceFault, InDevice, IoFault, OutDevice};
 use std::alloc::Global;
 use std::cell::Cell;
 use std::test::Fail;
 use tests_common::checks::exits;
+use tests_common::judging::{ALL_RULES, ALL_RULES_OF_BUNDLES};
 use tests_common::packing::{DEFAULTS, Packing};
 use tests_common::rows::ALL;
 use tests_common::running::Tool;
@@ -245,18 +246,12 @@ static OVER_STREAMS: [Tool; 4] = [
         only: None,
         keep_going: false,
     }),
-    Tool::Check(CheckOptions {
-        must: false,
-        peer: PeerLimits {
-            segment: None,
-            transfer: None,
-        },
-    }),
+    Tool::Check(ALL_RULES),
 ];
 
 static OVER_BUNDLES: [Tool; 4] = [
     Tool::BundleBlocks,
-    Tool::BundleCheck { must: false },
+    Tool::BundleCheck(ALL_RULES_OF_BUNDLES),
     Tool::Pack(DEFAULTS),
     Tool::Pack(Packing {
         peer_segment: 20,

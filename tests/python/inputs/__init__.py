@@ -11,6 +11,7 @@ with its options.
     rules      what the rules of messages depend on, at its limits and in each combination
     bundle_rules
                the same of the rules of bundles
+    binding    whom the rules of bundles bind: nodes and their IDs, and unknown parts
     worked     the runs of tests/python/rows
     randoms    random streams and bundles
 """

@@ -18,8 +18,8 @@ UNPACKS = [("unpack", it) for it in [{}, {"transfer": 0}, {"payload": True}, {"t
 GOES_ON = [("unpack", {"keep_going": True, **it}) for it in [{}, {"transfer": 0}, {"payload": True}]]
 BLOCKS = [("blocks", it) for it in [{}, {"transfer": 0}, {"keep_going": True}]]
 BUNDLE_BLOCKS = [("blocks", {"bundles": True})]
-CHECKS = [("check", it) for it in [{}, {"must": True}, {"peer_segment": 20, "peer_transfer": 36}]]
-BUNDLE_CHECKS = [("check", {"bundles": True, **it}) for it in [{}, {"must": True}]]
+CHECKS = [("check", it) for it in [{}, {"must": True}, {"own": "ipn:2.0", "peer_segment": 20, "peer_transfer": 36}]]
+BUNDLE_CHECKS = [("check", {"bundles": True, **it}) for it in [{}, {"own": "ipn:1.0", "must": True}]]
 PACKS = [("pack", it) for it in [
     {"node": "ipn:1.0"},
     {"node": "", "peer_segment": 1, "peer_transfer": 36, "end": True},

@@ -26,7 +26,7 @@ def some_bytes(rng, most):
 def endpoint(rng):
     """A random endpoint ID of any form."""
     numbers = [rng.choice(NUMBERS) for _ in range(rng.choice((2, 2, 3)))]
-    return rng.choice([None, some_bytes(rng, 20), numbers, numbers])
+    return rng.choice([None, some_bytes(rng, 20), rng.choice((b"//n/", b"//N/a")), numbers, numbers, rng.choice(((1, 1), (2, 0, 1)))])
 
 
 def width_of(rng):
@@ -204,10 +204,15 @@ def pack_options(rng, length):
     return options
 
 
+def own(rng):
+    """The node ID of a node that is the source of some random bundles."""
+    return rng.choice(("ipn:1.0", "ipn:0.1.7", "ipn:2.0.0", "dtn://n/", f"ipn:{rng.choice(NUMBERS)}.0"))
+
+
 def check_options(rng):
     """Options of `check` around the lengths of small segments and transfers."""
     sizes = (1, 30, 70, 200, 1000, 2**64 - 1)
-    values = {"must": True, "peer_segment": rng.choice(sizes), "peer_transfer": rng.choice((0, *sizes))}
+    values = {"must": True, "own": own(rng), "peer_segment": rng.choice(sizes), "peer_transfer": rng.choice((0, *sizes))}
     return {name: value for name, value in values.items() if rng.random() < 0.3}
 
 
@@ -228,7 +233,8 @@ def run_of_bundles(rng):
     """Random bundles, packed with random options, their blocks, and the rules that they break."""
     content = bundles(rng)
     packs = [("pack", pack_options(rng, len(content))) for _ in range(3)]
-    return content, [*packs, ("blocks", {"bundles": True}), ("check", {"bundles": True})]
+    checks = [("check", {"bundles": True}), ("check", {"bundles": True, "own": own(rng)})]
+    return content, [*packs, ("blocks", {"bundles": True}), *checks]
 
 
 def group(seed, runs, make):

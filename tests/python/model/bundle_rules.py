@@ -1,7 +1,8 @@
 """Rules of bundles (RFC 9171, and RFC 9172 sections 3.6 and 3.8): a function for each.
 
-It takes the judgement of a good bundle. It returns None if the bundle keeps the rule, and otherwise
-the words of its line.
+It takes a `Bundle`. It returns None if the bundle keeps the rule, and otherwise the words of its
+line. A rule of the source is below `@binds_source`. Rules of the adder of a security block go by
+`security_said`. All others bind the sender, or say whom.
 """
 
 from . import bundle_facts, texts
@@ -10,10 +11,10 @@ from .block_data import (
     StatusReport,
 )
 from .bundle_facts import (
-    PAYLOAD_NUMBER, PRIMARY_NUMBER, all_said, content, first_said, has_all_blocks, is_hidden, is_payload_hidden, is_record,
-    of_kind, record_said, targets,
+    OF_ADDER, OF_SENDER, PAYLOAD_NUMBER, PRIMARY_NUMBER, all_said, binds_source, content, first_said, has_all_blocks,
+    has_plain_data, is_hidden, is_own, is_payload_hidden, is_record, of_kind, record_said, security_said,
 )
-from .names import demux_of
+from .names import demux_of, node_of_endpoint
 from .rules import MUST, SHOULD, Rules
 
 # Flags of a bundle (section 4.2.3): it must not be fragmented; reports are requested of its
@@ -32,8 +33,11 @@ BLOCK_FLAGS = 0x01 | BLOCK_REPORT | 0x04 | 0x10
 # Block types of other versions, or of none (section 9.1), and the greatest that a bundle may have
 FOREIGN_TYPES, LAST_TYPE = (0, 2, 3, 4, 5, 8, 9), 255
 
-# The greatest reason of a status report that is assigned (section 9.5, RFC 9172 section 11.2)
-LAST_REASON = 16
+# The types of administrative records that are of version 6 alone, or of none (section 6.1)
+OTHER_RECORDS = 0, 2
+
+# The reason of a status report that is reserved (section 6.1.1)
+RESERVED_REASON = 255
 
 RULES = Rules()
 
@@ -53,28 +57,39 @@ def flags_of(it):
     return f"flags={texts.hexadecimal(it.primary.flags)}"
 
 
-def long_heads(it, *kinds):
-    """The offset of the first long head in the data of each block of these types, if it has one."""
-    return [at for block, _ in all_said(it, *kinds) if (at := bundle_facts.long_head(it, block)) is not None]
+def long_heads(it, found):
+    """The offset of the first long head in the data of each of some blocks, if it has one."""
+    return [at for block, _ in found if (at := bundle_facts.long_head(it, block)) is not None]
 
 
-def long_heads_of_fields(it):
-    """Long heads of the fields of blocks, and of security blocks (RFC 9172 section 3.6)."""
-    own = [] if it.long_head is None else [it.long_head]
-    return own + long_heads(it, INTEGRITY, CONFIDENTIALITY)
+def long_heads_of_source(it):
+    """The first long head outside of data, which is the source's."""
+    return [it.long_head] if it.long_head is not None and is_own(it, it.primary.source) else []
 
 
-@RULES.rule(lambda it: bool(long_heads_of_fields(it)))
+def long_heads_of_security(it):
+    """Long heads of security blocks, which are their adders' (RFC 9172 section 3.6)."""
+    return long_heads(it, security_said(it, *OF_ADDER))
+
+
+def surely_long_heads(it):
+    """Long heads of the fields of blocks, and of security blocks if these were not changed."""
+    return long_heads_of_source(it) + (long_heads_of_security(it) if has_plain_data(it) else [])
+
+
+@RULES.rule(lambda it: bool(surely_long_heads(it)))
 def long_head(it):
     """Each head is the shortest for its number (section 4.1, RFC 9172 section 3.6).
 
-    A head in the data of a previous node, bundle age or hop count block is no field of a block.
+    A head in the data of a previous node, bundle age or hop count block is no field of a block. It is
+    the sender's.
     """
-    places = long_heads_of_fields(it) or long_heads(it, PREVIOUS_NODE, BUNDLE_AGE, HOP_COUNT)
+    places = surely_long_heads(it) or long_heads_of_security(it) + long_heads(it, all_said(it, *OF_SENDER))
     return f"byte={min(places)}" if places else None
 
 
 @RULES.rule(SHOULD)
+@binds_source
 def bundle_flags(it):
     """A bundle has no flag but those that are defined (section 4.2.3)."""
     return flags_of(it) if it.primary.flags & ~BUNDLE_FLAGS else None
@@ -86,17 +101,26 @@ def may_protect(it, block):
     return is_hidden(it, block) or isinstance(said, Malformed) or PRIMARY_NUMBER in said.targets
 
 
-@RULES.rule(has_all_blocks)
+def is_of_source(it):
+    """Whether the bundle has all blocks, and came from its source, or is judged as the source's."""
+    source = node_of_endpoint(it.primary.source)
+    return has_all_blocks(it) and source is not None and source in (it.own, it.sender)
+
+
+@RULES.rule(is_of_source)
+@binds_source
 def primary_check(it):
     """The primary block has a check, or a block integrity block protects it (section 4.3.1).
 
-    A block whose targets cannot be read may protect it.
+    A block whose targets cannot be read may protect it. A node on the path may have removed such a
+    block, and may not add a check.
     """
     is_protected = any(may_protect(it, block) for block in of_kind(it, INTEGRITY))
     return None if it.primary.check or is_protected else ""
 
 
 @RULES.rule(MUST)
+@binds_source
 def anonymous(it):
     """A bundle without a source is not fragmented, and asks for no reports (section 4.2.3)."""
     is_wrong = not it.primary.flags & NO_FRAGMENTS or asks_for_reports(it)
@@ -104,12 +128,14 @@ def anonymous(it):
 
 
 @RULES.rule(MUST)
+@binds_source
 def record_reports(it):
     """An administrative record asks for no reports (section 4.2.3)."""
     return flags_of(it) if is_record(it) and asks_for_reports(it) else None
 
 
 @RULES.rule(MUST)
+@binds_source
 def block_reports(it):
     """The blocks of an administrative record, or of a bundle without a source, ask for no reports.
 
@@ -120,47 +146,82 @@ def block_reports(it):
 
 
 @RULES.rule(SHOULD)
+@binds_source
 def block_flags(it):
     """A block has no flag but those that are defined (section 4.2.4)."""
     wrong = [block for block in it.blocks if block.flags & ~BLOCK_FLAGS]
     return f"block={wrong[0].number} flags={texts.hexadecimal(wrong[0].flags)}" if wrong else None
 
 
-def names_of(it):
-    """Each endpoint ID of the bundle with the words that say whose it is, in their order."""
+def names_of_primary(it):
+    """Each endpoint ID of the primary block with the words that say whose it is."""
     begin = it.primary
-    yield from (("destination", begin.destination), ("source", begin.source), ("report-to", begin.report_to))
-    for block, content in all_said(it, PREVIOUS_NODE, INTEGRITY, CONFIDENTIALITY):
-        is_node = block.kind == PREVIOUS_NODE
-        of, name = ("previous-node", content.node) if is_node else ("security-source", content.source)
-        yield f"{of} block={block.number}", name
-    if report_of(it):
-        yield "report-source", report_of(it).source
+    return [("destination", begin.destination), ("source", begin.source), ("report-to", begin.report_to)]
 
 
-@RULES.rule(MUST)
+def names_in_data(it):
+    """The same of each endpoint ID in the data of blocks, in their order.
+
+    A previous node is the sender's, and a security source its adder's.
+    """
+    for block, each in all_said(it, PREVIOUS_NODE, *OF_ADDER):
+        if block.kind == PREVIOUS_NODE:
+            yield f"previous-node block={block.number}", each.node
+        elif is_own(it, each.source):
+            yield f"security-source block={block.number}", each.source
+
+
+def wrong_names(found):
+    """The words of those endpoint IDs that are texts and no dtn names."""
+    return [of for of, name in found if isinstance(name, bytes) and demux_of(name) is None]
+
+
+def wrong_names_of_primary(it):
+    """Those of the primary block, which are the source's."""
+    return wrong_names(names_of_primary(it)) if is_own(it, it.primary.source) else []
+
+
+@RULES.rule(lambda it: has_plain_data(it) or bool(wrong_names_of_primary(it)))
 def dtn_name(it):
-    """A dtn endpoint ID that is a text has the form of a dtn name (section 4.2.5.1.1)."""
-    wrong = [of for of, name in names_of(it) if isinstance(name, bytes) and demux_of(name) is None]
+    """A dtn endpoint ID that is a text has the form of a dtn name (section 4.2.5.1.1).
+
+    The last is that of a status report, which is the source's.
+    """
+    report = report_of(it) if is_own(it, it.primary.source) else None
+    of_report = wrong_names([("report-source", report.source)] if report else [])
+    wrong = [*wrong_names_of_primary(it), *wrong_names(names_in_data(it)), *of_report]
     return f"of={wrong[0]}" if wrong else None
 
 
-@RULES.rule(MUST)
+def is_beyond(it):
+    """Whether the payload of a fragment ends after the end of the whole data.
+
+    The length of ciphertext may be another than that of the data.
+    """
+    offset, total = it.primary.fragment
+    return offset + it.identity.payload > total and not is_payload_hidden(it)
+
+
+def is_no_fragment(it):
+    """Whether a fragment must be none, or has nothing of the data."""
+    return it.primary.flags & NO_FRAGMENTS or it.identity.payload == 0
+
+
+@RULES.rule(lambda it: is_no_fragment(it) or has_plain_data(it))
+@binds_source
 def fragment(it):
     """A fragment may be one, and is a part of its application data.
 
-    (Sections 3.1, 4.3.1, 5.8 and 5.9.) The length of ciphertext may be another than that of the
-    data.
+    (Sections 3.1, 4.3.1, 5.8 and 5.9.)
     """
-    if it.primary.fragment is None:
+    if it.primary.fragment is None or not (is_no_fragment(it) or is_beyond(it)):
         return None
-    (offset, total), length = it.primary.fragment, it.identity.payload
-    is_beyond = offset + length > total and not is_payload_hidden(it)
-    is_wrong = it.primary.flags & NO_FRAGMENTS or length == 0 or is_beyond
-    return f"offset={offset} length={length} total={total}" if is_wrong else None
+    offset, total = it.primary.fragment
+    return f"offset={offset} length={it.identity.payload} total={total}"
 
 
 @RULES.rule(SHOULD)
+@binds_source
 def whole_fragment(it):
     """A fragment is less than the whole data (section 5.8).
 
@@ -176,6 +237,7 @@ def is_age_due(it):
 
 
 @RULES.rule(is_age_due)
+@binds_source
 def age(it):
     """A bundle has at most one bundle age block, and one if its time is 0 (section 4.4.2)."""
     blocks = len(of_kind(it, BUNDLE_AGE))
@@ -189,7 +251,8 @@ def previous_node(it):
     return f"blocks={blocks}" if blocks > 1 else None
 
 
-@RULES.rule(MUST)
+@RULES.rule(lambda it: len(of_kind(it, HOP_COUNT)) > 1 or has_plain_data(it))
+@binds_source
 def hop_count(it):
     """A bundle has one hop count block at most, with a limit from 1 to 255 (section 4.4.3).
 
@@ -201,10 +264,10 @@ def hop_count(it):
     return f"blocks={blocks}" + (f" limit={first.limit}" if first else "")
 
 
-@RULES.rule(MUST)
+@RULES.rule(has_plain_data)
 def confidential_primary(it):
     """No block confidentiality block has the primary block as a target (RFC 9172 section 3.8)."""
-    wrong = [number for number, each in targets(it, CONFIDENTIALITY) if PRIMARY_NUMBER in each]
+    wrong = [block.number for block, each in security_said(it, CONFIDENTIALITY) if PRIMARY_NUMBER in each.targets]
     return f"block={wrong[0]}" if wrong else None
 
 
@@ -215,6 +278,16 @@ def hops(it):
     return f"limit={first.limit} count={first.count}" if first and first.count > first.limit else None
 
 
+def is_judged(it, block):
+    """Whether what is malformed in the data of a block is judged.
+
+    A record is the source's. A security block that is malformed is no known node's.
+    """
+    if block.kind in OF_ADDER:
+        return it.own is None
+    return block.kind in OF_SENDER or is_own(it, it.primary.source)
+
+
 def malformed(it, is_limit):
     """The number of each block that is malformed, and where, in their order.
 
@@ -222,14 +295,15 @@ def malformed(it, is_limit):
     fragment. Data that may be ciphertext is passed over. `is_limit` says whether the blocks are
     those that the toolkit does not read, or those that the RFC forbids.
     """
-    contents = [(block.number, content(it, block)) for block in it.blocks if not is_hidden(it, block)]
+    judged = [block for block in it.blocks if is_judged(it, block) and not is_hidden(it, block)]
+    contents = [(block.number, content(it, block)) for block in judged]
     return [
         (number, each.at) for number, each in contents
         if isinstance(each, Malformed) and each.is_limit == is_limit
     ]
 
 
-@RULES.rule(MUST)
+@RULES.rule(has_plain_data)
 def block_data(it):
     """The data of previous node, bundle age, hop count and security blocks is well formed.
 
@@ -249,7 +323,7 @@ def data_not_read(it):
     return f"block={wrong[0][0]} byte={wrong[0][1]}" if wrong else None
 
 
-@RULES.rule(MUST)
+@RULES.rule(has_plain_data)
 def record(it):
     """The payload of an administrative record is well formed (sections 6.1 and 6.1.1).
 
@@ -265,6 +339,7 @@ def is_group(name):
 
 
 @RULES.rule(MUST)
+@binds_source
 def source_node(it):
     """The source is one node, or none (section 5.2, section 4.2.5.1.1)."""
     return "" if is_group(it.primary.source) else None
@@ -284,7 +359,7 @@ def is_service(name):
     return bool(demux_of(name)) if isinstance(name, bytes) else name[-1] != 0
 
 
-@RULES.rule(is_no_node)
+@RULES.rule(lambda it: is_no_node(it) and has_plain_data(it))
 def previous_node_id(it):
     """The previous node is a node ID (section 4.4.1, section 4.2.5.2)."""
     block, first = first_said(it, PREVIOUS_NODE)
@@ -300,6 +375,7 @@ def expired(it):
 
 
 @RULES.rule(SHOULD)
+@binds_source
 def block_type(it):
     """The type of a block is one of this version, or free (section 4.3.2, section 9.1)."""
     wrong = [block for block in it.blocks if block.kind in FOREIGN_TYPES or block.kind > LAST_TYPE]
@@ -307,10 +383,14 @@ def block_type(it):
 
 
 @RULES.rule(SHOULD)
+@binds_source
 def record_type(it):
-    """An administrative record is a status report (section 6.1)."""
+    """An administrative record is of a type of this version (section 6.1).
+
+    Other documents may define more types.
+    """
     record = record_said(it)
-    return f"type={record.kind}" if isinstance(record, OtherRecord) else None
+    return f"type={record.kind}" if isinstance(record, OtherRecord) and record.kind in OTHER_RECORDS else None
 
 
 def report_of(it):
@@ -324,7 +404,8 @@ def asserted(report):
     return [each for each in report.assertions if each is not False]
 
 
-@RULES.rule(MUST)
+@RULES.rule(has_plain_data)
+@binds_source
 def report_times(it):
     """A status report has a time for each status that is asserted, or for none (section 6.1.1)."""
     report = report_of(it)
@@ -333,6 +414,7 @@ def report_times(it):
 
 
 @RULES.rule(SHOULD)
+@binds_source
 def report_empty(it):
     """A status report asserts some status (section 5.1, section 6.1.1)."""
     report = report_of(it)
@@ -340,13 +422,18 @@ def report_empty(it):
 
 
 @RULES.rule(SHOULD)
+@binds_source
 def report_reason(it):
-    """The reason of a status report is assigned (section 6.1.1, section 9.5)."""
+    """The reason of a status report is not the reserved one (section 6.1.1).
+
+    Other documents may define more reasons.
+    """
     report = report_of(it)
-    return f"reason={report.reason}" if report and report.reason > LAST_REASON else None
+    return f"reason={report.reason}" if report and report.reason == RESERVED_REASON else None
 
 
 @RULES.rule(SHOULD)
+@binds_source
 def report_source(it):
     """The bundle that a status report is about has a source (section 4.2.3, section 6.1.1).
 

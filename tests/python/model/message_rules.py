@@ -23,6 +23,8 @@ TYPES = {
 # Reasons of MSG_REJECT: the type is unknown, the message is unsupported, or unexpected (section
 # 5.1.2). A reason of XFER_REFUSE: the bundle is not acceptable (section 5.2.4).
 TYPE_UNKNOWN, UNSUPPORTED, UNEXPECTED = 0x01, 0x02, 0x03
+# The type byte that no message has, now or later (section 8.5)
+RESERVED = 0x00
 NOT_ACCEPTABLE = 0x04
 
 # The reasons that are neither assigned nor for private use, by the type of the message (sections
@@ -81,17 +83,6 @@ def contact_flags(flags):
     return f"flags={flags:02x}" if flags & ~CAN_TLS else None
 
 
-def is_name(node):
-    """Whether a node ID is a URI, and one of its scheme if this is dtn or ipn."""
-    uri = names.URI.fullmatch(node)
-    if not uri:
-        return False
-    scheme, rest = uri[1].lower(), uri[2]
-    if scheme == b"dtn":
-        return bool(names.DTN_NONE.fullmatch(rest)) or names.demux_of(rest) is not None
-    return scheme != b"ipn" or rest.startswith(b"!") or bool(names.IPN_NUMBERS.fullmatch(rest))
-
-
 @RULES.rule(MUST)
 def node_id(turn):
     """A node ID is empty or a URI (section 4.6), with the syntax of its scheme.
@@ -99,7 +90,7 @@ def node_id(turn):
     (RFC 9171 sections 4.2.5.1.1 and 4.2.5.1.2.)
     """
     it = turn.head.it
-    if not isinstance(it, wire.SessInit) or not it.node or is_name(it.node):
+    if not isinstance(it, wire.SessInit) or not it.node or names.is_node_id(it.node):
         return None
     return f"length={len(it.node)}"
 
@@ -228,7 +219,7 @@ def peer_transfer(turn):
     return f"length={sum(lengths)} limit={limit}" if sum(lengths[:-1]) <= limit < sum(lengths) else None
 
 
-@RULES.rule(MUST)
+@RULES.rule(SHOULD)
 def ack_length(turn):
     """An acknowledged length does not fall within a transfer (section 5.2.3)."""
     it = turn.head.it
@@ -261,8 +252,8 @@ def term_flags(turn):
 
 def demux_of(node):
     """The demux of a dtn name (RFC 9171 section 4.2.5.1.1), or None for another node ID."""
-    scheme, _, rest = node.partition(b":")
-    return names.demux_of(rest) if scheme.lower() == b"dtn" else None
+    scheme, rest = names.parts_of(node)
+    return names.demux_of(rest) if scheme == names.DTN else None
 
 
 def names_node(node):
@@ -270,9 +261,9 @@ def names_node(node):
 
     An ipn name that begins with `!` may.
     """
-    scheme, _, rest = node.partition(b":")
-    if scheme.lower() == b"ipn":
-        return rest.startswith(b"!") or int(names.IPN_NUMBERS.fullmatch(rest)[1]) == 0
+    scheme, rest = names.parts_of(node)
+    if scheme == names.IPN:
+        return rest.startswith(b"!") or int(names.IPN_NUMBERS.fullmatch(rest)[3]) == 0
     return demux_of(node) == b""
 
 
@@ -288,7 +279,7 @@ def node_name(turn):
     (RFC 9171 sections 4.2.5.1 and 4.2.5.2.) One of another scheme than dtn and ipn is not known to be.
     """
     it = turn.head.it
-    is_due = isinstance(it, wire.SessInit) and it.node and is_name(it.node)
+    is_due = isinstance(it, wire.SessInit) and it.node and names.is_node_id(it.node)
     return f"length={len(it.node)}" if is_due and not names_node(it.node) else None
 
 
@@ -381,12 +372,15 @@ def after_reject(turn):
 
 @RULES.rule(SHOULD)
 def reject_known(turn):
-    """A MSG_REJECT calls a type unknown if and only if RFC 9174 has it not (section 5.1.2)."""
+    """A MSG_REJECT calls no type of RFC 9174 unknown, and the reserved one not known (section 5.1.2).
+
+    Any other type may be known to both nodes.
+    """
     it = turn.head.it
     if not isinstance(it, wire.Reject):
         return None
-    is_known = it.header in TYPES.values()
-    is_wrong = it.reason == TYPE_UNKNOWN if is_known else it.reason in (UNSUPPORTED, UNEXPECTED)
+    is_wrong = it.header in TYPES.values() and it.reason == TYPE_UNKNOWN
+    is_wrong |= it.header == RESERVED and it.reason in (UNSUPPORTED, UNEXPECTED)
     return f"reason={it.reason:02x} header={it.header:02x}" if is_wrong else None
 
 

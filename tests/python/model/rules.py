@@ -33,10 +33,10 @@ def level_of(rule, it):
     return MUST if rule.level(it) else SHOULD
 
 
-def broken(rules, it, at, of=""):
+def broken(rules, it, at, of="", may_be_must=True):
     """Yields the level and the line of each broken rule. `of` is the word after its name."""
     for rule in rules:
         words = rule.broken(it)
         if words is not None:
-            level = level_of(rule, it)
+            level = level_of(rule, it) if may_be_must else SHOULD
             yield level, " ".join(word for word in (f"{at} {level} {rule.name}", of, words) if word)

@@ -1,14 +1,15 @@
 """Rules of security blocks (RFC 9172, and RFC 9173 for a context): a function for each.
 
-It takes the judgement of a good bundle. It returns None if the bundle keeps the rule, and otherwise
-the words of its line. A security block counts if its data says something: it is not malformed, and
-a block integrity block may be no ciphertext. Of its targets, the first ones count.
+It takes a `Bundle`. It returns None if the bundle keeps the rule, and otherwise the words of its
+line. A security block counts if its data says something: it is not malformed, and a block integrity
+block may be no ciphertext. With the option `--own`, its source is of that node. Of its targets, the
+first ones count. None is a must if the data may have been changed.
 """
 
 from . import texts
 from .block_data import CONFIDENTIALITY, INTEGRITY
-from .bundle_facts import MAX_TARGETS, PAYLOAD_NUMBER, PRIMARY_NUMBER, all_said
-from .rules import MUST, SHOULD, Rules
+from .bundle_facts import MAX_TARGETS, PAYLOAD_NUMBER, PRIMARY_NUMBER, has_plain_data, security_said
+from .rules import SHOULD, Rules
 
 # Flags of a block (RFC 9171 section 4.2.4): it is in every fragment; it is removed if it cannot be
 # processed
@@ -25,17 +26,17 @@ RULES = Rules()
 
 def integrity(it):
     """The block integrity blocks that count, and what each says."""
-    return all_said(it, INTEGRITY)
+    return security_said(it, INTEGRITY)
 
 
 def confidentiality(it):
     """The block confidentiality blocks that count, and what each says."""
-    return all_said(it, CONFIDENTIALITY)
+    return security_said(it, CONFIDENTIALITY)
 
 
 def security(it):
     """The security blocks of both types that count, and what each says."""
-    return all_said(it, INTEGRITY, CONFIDENTIALITY)
+    return security_said(it, INTEGRITY, CONFIDENTIALITY)
 
 
 def first_targets(said):
@@ -82,7 +83,7 @@ def missing_targets(it):
     return all_targets(security(it)) - numbers if it.primary.fragment is None else set()
 
 
-@RULES.rule(lambda it: wrong_targets(it) is not None)
+@RULES.rule(lambda it: has_plain_data(it) and wrong_targets(it) is not None)
 def security_targets(it):
     """A security block has a target, each once, and each is a block of the bundle (section 3.6).
 
@@ -92,9 +93,12 @@ def security_targets(it):
     return wrong_targets(it) or first_words(security(it), lambda _: missing)
 
 
-@RULES.rule(MUST)
+@RULES.rule(has_plain_data)
 def security_twice(it):
-    """No two security blocks of one type have a target in common (section 3.2)."""
+    """No two security blocks of one type have a target in common (section 3.2).
+
+    Of two nodes, either may have added its block first.
+    """
     blocks = security(it)
 
     def before(block):
@@ -103,7 +107,7 @@ def security_twice(it):
     return first_words(blocks, before)
 
 
-@RULES.rule(MUST)
+@RULES.rule(has_plain_data)
 def security_flags(it):
     """A security context has no flag but the one that is defined (section 3.6)."""
     wrong = [(block, said.flags) for block, said in security(it) if said.flags & ~PARAMETERS]
@@ -122,21 +126,21 @@ def of_kinds(it, *kinds):
     return {block.number for block in it.blocks if block.kind in kinds}
 
 
-@RULES.rule(MUST)
+@RULES.rule(has_plain_data)
 def integrity_target(it):
     """No block integrity block has a security block as a target (section 3.7)."""
     wrong = of_kinds(it, INTEGRITY, CONFIDENTIALITY)
     return first_words(integrity(it), lambda _: wrong)
 
 
-@RULES.rule(MUST)
+@RULES.rule(has_plain_data)
 def confidential_target(it):
     """No block confidentiality block has such a block as a target (section 3.8)."""
     wrong = of_kinds(it, CONFIDENTIALITY)
     return first_words(confidentiality(it), lambda _: wrong)
 
 
-@RULES.rule(MUST)
+@RULES.rule(has_plain_data)
 def confidential_flags(it):
     """A block confidentiality block is not removed, and is where its payload is (section 3.8)."""
     wrong = [
@@ -146,7 +150,7 @@ def confidential_flags(it):
     return f"{words(wrong[0])} flags={texts.hexadecimal(wrong[0].flags)}" if wrong else None
 
 
-@RULES.rule(MUST)
+@RULES.rule(has_plain_data)
 def confidential_context(it):
     """The context of a block confidentiality block is a cipher (section 3.8, RFC 9173 sections 3.1 and 5.1)."""
     wrong = [block for block, said in confidentiality(it) if said.context == HMAC]

@@ -76,7 +76,12 @@ def fault(transfer):
     return f"code={code} byte={place}"
 
 
-@RULES.rule(MUST, "bundle")
+def is_plain(transfer):
+    """Whether no item of an unknown type may say that the data is no plain bundle."""
+    return all(item.kind == tools.TRANSFER_LENGTH for item in transfer.items)
+
+
+@RULES.rule(is_plain, "bundle")
 def is_bundle(transfer):
     """The data of a transfer is one bundle (RFC 9171 section 4 and RFC 9174 section 5.2)."""
     return fault(transfer) if transfer.judged.fault and not is_limit(transfer) else None

@@ -12,6 +12,7 @@ spelled out in hexadecimal or made by those of tests/python/inputs.
     corpus  `check`: for each rule, a stream that breaks it alone and one that keeps all else too
     faults  `check`: each fault, in a stream that has no other
     runs    `check`: several rules at once, the options, and the status
+    binding `check`: whom a line accuses, with `--own` and without, and unknown parts
     rfc9173 both: the bundles of RFC 9173 appendix A
     laws    what holds of `blocks` and `check` for any input
     table   these files by their names

@@ -168,8 +168,19 @@ def bundles_of(rules):
         yield from ((f"{rule}, kept {number}", it, *(lines or [[]])) for number, (it, *lines) in enumerate(kept(keeping)))
 
 
+def alone(lines, at):
+    """The lines of a bundle at an offset, without a recording.
+
+    Nothing shows that its source sent it, so `primary-check` is no must.
+    """
+    return [line.replace("must primary-check", "should primary-check") for line in of(lines, at, "bundle=0")]
+
+
 def rows_of_bundles(rules):
-    """The rows of rules of bundles. Each bundle is in a transfer of one segment at 38, and alone."""
+    """The rows of rules of bundles. Each bundle is in a transfer of one segment at 38, and alone.
+
+    In the transfer, the SESS_INIT names the node ipn:1.0, of which most bundles are.
+    """
     for name, content, lines in bundles_of(rules):
         yield row(name, HEAD + sent(content), of(lines, 38, "transfer=0"))
-        yield row(f"{name}, alone", content, of(lines, 0, "bundle=0"), {"bundles": True})
+        yield row(f"{name}, alone", content, alone(lines, 0), {"bundles": True})

@@ -343,8 +343,9 @@ BUNDLES = {
             (bundle(block(7, 2, b"\xff"), block(6, 3, b""), HIDDEN_2), "must block-data: block=3 byte=38"),
             (bundle(AGE, block(6, 3, b""), HIDDEN), "must block-data: block=3 byte=38"),
             (bundle(block(7, 2, b""), HIDDEN_64), ["must block-data: block=2 byte=31", MISSING]),
+            # A block of an unknown type may have encrypted it
             (bundle(block(7, 2, b""), block(192, 9, encoded(security([2], 2, (1, 1))))),
-             "must block-data: block=2 byte=31"),
+             "should block-data: block=2 byte=31"),
             # Security blocks, to the source: no array of targets, no numbers, and a source that is none or is cut
             *[(bundle(block(kind, 2, bytes.fromhex(data))), f"must block-data: block=2 byte={at}")
               for data, at in WRONG_SECURITY for kind in (11, 12)],
@@ -529,13 +530,16 @@ BUNDLES = {
     "record-type": (
         [
             *[(bundle(flags=0x02, payload=payload), f"should record-type: type={kind}") for payload, kind in [
-                (b"\x82\x00", 0), (b"\x82\x02\x00", 2), (b"\x82\x07\x80", 7), (b"\x82\x18\x18", 24), (b"\x82\x18\x02\xff", 2),
-                (b"\x82\x1b" + bytes(8 * [0xFF]), LAST),
+                (b"\x82\x00", 0), (b"\x82\x02\x00", 2), (b"\x82\x18\x02\xff", 2),
             ]],
             (bundle(AGE, HIDDEN_2, flags=0x02, payload=b"\x82\x02"), "should record-type: type=2"),
         ],
         [
             bundle(flags=0x02, payload=RECORD), bundle(payload=b"\x82\x02\x00"),
+            # Types that other documents may define
+            *[bundle(flags=0x02, payload=it) for it in [
+                b"\x82\x03\x00", b"\x82\x07\x80", b"\x82\x18\x18", b"\x82\x1a\x00\x01\x00\x00", b"\x82\x1b" + bytes(8 * [0xFF]),
+            ]],
             bundle(HIDDEN, flags=0x02, payload=b"\x82\x02\x00"),
             bundle(flags=0x03, fragment=(0, 9), payload=b"\x82\x02\x00"),
             bundle(flags=0x03, fragment=(1, 9), payload=b"\x82\x02\x00"),
@@ -582,14 +586,17 @@ BUNDLES = {
     ),
     "report-reason": (
         [
-            (bundle(flags=0x02, payload=report(True, False, False, False, reason=it)), f"should report-reason: reason={it}")
-            for it in [17, 24, 254, 255, 256, LAST]
+            (bundle(flags=0x02, payload=report(*statuses, reason=255)), "should report-reason: reason=255")
+            for statuses in [(True, False, False, False), (1, False, False, 2)]
         ],
         [
-            *[bundle(flags=0x02, payload=report(True, False, False, False, reason=it)) for it in [0, 11, 12, 16]],
-            bundle(HIDDEN, flags=0x02, payload=report(True, False, False, False, reason=17)),
-            bundle(payload=report(True, False, False, False, reason=17)),
-            bundle(flags=0x03, fragment=(0, 99), payload=report(True, False, False, False, reason=17)),
+            # Those that other documents may define are right too
+            *[bundle(flags=0x02, payload=report(True, False, False, False, reason=it)) for it in [
+                0, 11, 12, 16, 17, 24, 254, 256, LAST,
+            ]],
+            bundle(HIDDEN, flags=0x02, payload=report(True, False, False, False, reason=255)),
+            bundle(payload=report(True, False, False, False, reason=255)),
+            bundle(flags=0x03, fragment=(0, 99), payload=report(True, False, False, False, reason=255)),
         ],
     ),
     "report-source": (

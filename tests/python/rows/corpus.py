@@ -200,7 +200,7 @@ def of_sessions():
     yield "before-session", CONTACT + KEEPALIVE, "6 should before-session type=04", closed(KEEPALIVE)
     acks = HEAD + make.xfer_ack(START, 0, 20) + make.xfer_ack(END, 0, 19)
     kept = closed(make.xfer_ack(START, 0, 20), make.xfer_ack(END, 0, 20))
-    yield "ack-length", acks, "56 must ack-length length=19 before=20", kept
+    yield "ack-length", acks, "56 should ack-length length=19 before=20", kept
     none, least = (CONTACT + make.sess_init(keepalive=it) + KEEPALIVE for it in (0, 30))
     yield "keepalive", none, "38 should keepalive", least + TERM
     yield "term-flags", CONTACT + make.sess_term(0x02, 0), "6 must term-flags flags=02", closed()
@@ -303,6 +303,8 @@ def of_bundles():
     yield "primary-check", living(kind=0), "must primary-check:", living(kind=2)
     part = {"flags": 0x01, "fragment": (1, 2)}
     yield "primary-check", living(kind=0, **part), "should primary-check:", living(kind=2, **part), "of-a-fragment"
+    forwarded = living(kind=0, **FORWARDED)
+    yield "primary-check", forwarded, "should primary-check:", living(kind=2, **FORWARDED), "of-another-node"
     known = living(AGE, PROTECTING, CONFIDENTIAL, kind=0, payload=PAYLOAD)
     yield "primary-check", known, "must primary-check:", ENCRYPTED, "confidential"
     yield "anonymous", living(source=None), "must anonymous: flags=00", living(source=None, flags=0x04)
@@ -373,8 +375,8 @@ def of_reports():
     fifth, least = reporting(MADE, False, False, False, True), reporting(MADE, False, False, False, False)
     yield "report-times", fifth, "must report-times:", least, "of-a-fifth"
     yield "report-empty", reporting(False, False, False, False), "should report-empty:", right
-    unassigned, last = (reporting(MADE, False, False, False, reason=it) for it in (17, 16))
-    yield "report-reason", unassigned, "should report-reason: reason=17", last
+    reserved, last = (reporting(MADE, False, False, False, reason=it) for it in (255, 16))
+    yield "report-reason", reserved, "should report-reason: reason=255", last
     yield "report-source", reporting(MADE, False, False, False, source=None), "should report-source:", right
 
 

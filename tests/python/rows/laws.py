@@ -9,7 +9,7 @@ import random
 
 import make
 from inputs import block_data, limits, randoms
-from model import blocks, bundle, checking, tools
+from model import blocks, bundle, checking, tools, transfer_rules
 from model.block_data import Malformed, content_of
 
 from .broken import CLEAN, CONTACT, INIT, KEEPALIVE, sent
@@ -95,17 +95,28 @@ def is_read_in_order(block, flags):
     return True
 
 
+def of_bundle_alone(line, is_plain=True):
+    """The level, the rule and the words of a line, as the bundle alone decides them.
+
+    The recording decides the level of `primary-check`, and each level if an item is of an unknown type.
+    """
+    _, level, rule, _, *words = line.split(" ")
+    return level if is_plain and rule != "primary-check" else None, rule, words
+
+
 def recording_is_bundles(stream):
-    """What good transfers have is what their bundles have in the output of `unpack`."""
+    """What good transfers have is what their bundles have in the output of `unpack`, as far as these decide it."""
     output, report, status = tools.unpacking(stream)
-    if status or len(lines_of(report)) != len(tools.walk(*tools.heads_of(tools.wire.reading(stream), False))):
+    walked = tools.walk(*tools.heads_of(tools.wire.reading(stream), False))
+    if status or len(lines_of(report)) != len(walked):
         return True
-    one, two = blocks.block_listing(stream), blocks.block_listing(output, bundles=True)
-    is_same = rest_of(lines_of(one[0]), 1) == rest_of(lines_of(two[0]), 1) and one[1:] == two[1:]
+    shown, listed = blocks.block_listing(stream), blocks.block_listing(output, bundles=True)
+    is_same = rest_of(lines_of(shown[0]), 1) == rest_of(lines_of(listed[0]), 1) and shown[1:] == listed[1:]
     found = [line for line in lines_of(checking.checking(stream)[0]) if line.split(" ")[2] in NAMES]
     alone = lines_of(checking.checking(output, bundles=True)[0])
-    without = [[line.split(" ")[1:3] + line.split(" ")[4:] for line in them] for them in (found, alone)]
-    return is_same and without[0] == without[1]
+    is_plain = all(transfer_rules.is_plain(it) for it in walked)
+    one, two = [[of_bundle_alone(line, is_plain) for line in them] for them in (found, alone)]
+    return is_same and one == two
 
 
 def is_excused(line):
@@ -146,7 +157,7 @@ def packed_is_clean(content):
         stream, _, status = tools.packing(sent_bytes, **options)
         shown = checking.checking(stream, peer_segment=size, peer_transfer=len(content))[0]
         alone = checking.checking(sent_bytes, bundles=True)[0]
-        one, two = [[line.split(" ")[1:3] for line in lines_of(it)] for it in (shown, alone)]
+        one, two = [[of_bundle_alone(line)[:2] for line in lines_of(it)] for it in (shown, alone)]
         if status == 0 and one != two:
             return False
     return True

@@ -25,25 +25,34 @@ EMPTY, OPENED = make.xfer_segment(BOTH, 5, b""), make.xfer_segment(START, 6, b""
 # A SESS_TERM with a reserved flag: 3 bytes
 TERM = make.sess_term(2, 0)
 
-# A bundle that breaks each rule of bundles that can be broken together, in their order. The primary
-# block has 21 bytes, so the data of the first block is at 28. The blocks after it are at 31 and 38,
-# and the bundle has 178 bytes.
-EVERY_RULE, _ = spelled(
-    blocks_of(
-        block(6, 2, endpoint(None)), block(6, 3, b"\x00"), block(6, 4, b"\x9f"),
-        block(7, 5, b"\x05"), block(7, 6, b"\x06"),
-        block(10, 7, hop_count(0, 1), flags=0x0A), block(10, 8, hop_count(9, 0)), block(9, 9, b""),
-        protecting(10, 9, 11, context_flags=0x02), hiding(11, 0, 9, 11, context=0, flags=0x10),
-        hiding(12, 9, context=1), protecting(13),
-        flags=0x400A, kind=0, source=None, destination=b"n", lifetime=4,
-        payload=report(7, True, False, False, reason=17, source=None),
-    ),
-    VERSION, head(0, 7, 1),
-)
+
+def breaking(other):
+    """A bundle that breaks most rules of bundles, with another block, whose number is 9.
+
+    The primary block has 21 bytes, so the data of the first block is at 28. The blocks after it are
+    at 31 and 38.
+    """
+    return spelled(
+        blocks_of(
+            block(6, 2, endpoint(None)), block(6, 3, b"\x00"), block(6, 4, b"\x9f"),
+            block(7, 5, b"\x05"), block(7, 6, b"\x06"),
+            block(10, 7, hop_count(0, 1), flags=0x0A), block(10, 8, hop_count(9, 0)), other,
+            protecting(10, 9, 11, context_flags=0x02), hiding(11, 0, 9, 11, context=0, flags=0x10),
+            hiding(12, 9, context=1), protecting(13),
+            flags=0x400A, kind=0, source=None, destination=b"n", lifetime=4,
+            payload=report(7, True, False, False, reason=255, source=None),
+        ),
+        VERSION, head(0, 7, 1),
+    )[0]
+
+
+# A bundle that breaks each rule of bundles that can be broken together, in their order: 179 bytes.
+# It has a block of an unknown type.
+EVERY_RULE = breaking(block(9, 9, b""))
 EVERY_LINE = [
     "0 must long-head bundle=0 byte=2",
     "0 should bundle-flags bundle=0 flags=400a",
-    "0 must primary-check bundle=0",
+    "0 should primary-check bundle=0",
     "0 must anonymous bundle=0 flags=400a",
     "0 must record-reports bundle=0 flags=400a",
     "0 must block-reports bundle=0 block=7",
@@ -52,25 +61,37 @@ EVERY_LINE = [
     "0 must age bundle=0 blocks=2",
     "0 must previous-node bundle=0 blocks=3",
     "0 must hop-count bundle=0 blocks=2 limit=0",
-    "0 must confidential-primary bundle=0 block=11",
+    "0 should confidential-primary bundle=0 block=11",
     "0 should hops bundle=0 limit=0 count=1",
-    "0 must block-data bundle=0 block=3 byte=37",
+    "0 should block-data bundle=0 block=3 byte=37",
     "0 should data-not-read bundle=0 block=4 byte=44",
-    "0 must previous-node-id bundle=0 block=2",
+    "0 should previous-node-id bundle=0 block=2",
     "0 should expired bundle=0 lifetime=4 age=5",
     "0 should block-type bundle=0 block=9 type=9",
-    "0 must report-times bundle=0",
-    "0 should report-reason bundle=0 reason=17",
+    "0 should report-times bundle=0",
+    "0 should report-reason bundle=0 reason=255",
     "0 should report-source bundle=0",
-    "0 must security-targets bundle=0 block=13",
-    "0 must security-twice bundle=0 block=12 target=9",
-    "0 must security-flags bundle=0 block=10 flags=02",
+    "0 should security-targets bundle=0 block=13",
+    "0 should security-twice bundle=0 block=12 target=9",
+    "0 should security-flags bundle=0 block=10 flags=02",
     "0 should security-context bundle=0 block=11 context=0",
-    "0 must integrity-target bundle=0 block=10 target=11",
-    "0 must confidential-target bundle=0 block=11 target=11",
-    "0 must confidential-flags bundle=0 block=11 flags=10",
-    "0 must confidential-context bundle=0 block=12",
+    "0 should integrity-target bundle=0 block=10 target=11",
+    "0 should confidential-target bundle=0 block=11 target=11",
+    "0 should confidential-flags bundle=0 block=11 flags=10",
+    "0 should confidential-context bundle=0 block=12",
     "0 should shared-target bundle=0 block=10 target=9",
+]
+
+# The same with a third age, of 7 bytes, in place of a block of an unknown type. What that block may
+# have changed is a must here, unless the rule is a should.
+KNOWN_BLOCKS = breaking(block(7, 9, b"\x07"))
+SURE = [
+    "confidential-primary", "block-data", "previous-node-id", "report-times", "security-targets", "security-twice", "security-flags",
+    "integrity-target", "confidential-target", "confidential-flags", "confidential-context",
+]
+KNOWN_LINES = [
+    line.replace("0 should", "0 must") if line.split(" ")[2] in SURE else line.replace("age bundle=0 blocks=2", "age bundle=0 blocks=3")
+    for line in EVERY_LINE if "block-type" not in line
 ]
 
 
@@ -122,7 +143,8 @@ def of_one_message():
 def of_one_step():
     """As many lines as a step writes, of a START that closes its transfer."""
     most = make.xfer_segment(BOTH | 0x08, 5, EVERY_RULE, length(9), length(9), make.item(0x10, 2, b""))
-    of_bundle = [line.replace("0 ", "88 ", 1).replace("bundle=0", "transfer=5") for line in EVERY_LINE]
+    # An item of an unknown type is there, so no rule of its bundle is a must.
+    of_bundle = [line.replace("0 must", "0 should").replace("0 ", "88 ", 1).replace("bundle=0", "transfer=5") for line in EVERY_LINE]
     yield stream_row("the most lines of a step", [EMPTY, OPENED, TERM, make.msg_reject(1, 8), most], [
         "38 should transfer-id-order id=5",
         "38 must bundle transfer=5 code=B1 byte=0",
@@ -132,14 +154,14 @@ def of_one_step():
         "88 should interleaved id=5 open=6",
         "88 must segment-flags flags=0b",
         "88 must transfer-id id=5",
-        "88 must peer-segment length=178 limit=177",
-        "88 must peer-transfer length=178 limit=0",
+        "88 must peer-segment length=179 limit=178",
+        "88 must peer-transfer length=179 limit=0",
         "88 should item-type item=2 type=0002",
         "88 must after-reject type=01",
         "88 must length-item transfer=5",
         "88 should length-of-one-segment transfer=5",
         *of_bundle,
-    ], peer_segment=177, peer_transfer=0)
+    ], peer_segment=178, peer_transfer=0)
 
 
 def of_one_bundle():
@@ -155,6 +177,7 @@ def of_one_bundle():
         "38 must age transfer=0 blocks=0",
     ])
     yield bundle_row("a bundle", EVERY_RULE, EVERY_LINE)
+    yield bundle_row("a bundle of known blocks", KNOWN_BLOCKS, KNOWN_LINES)
     yield bundle_row("a record", bundle(flags=0x4002, source=None, stamp=(0, 0)), [
         "0 must anonymous bundle=0 flags=4002",
         "0 must record-reports bundle=0 flags=4002",
@@ -235,7 +258,7 @@ def fragments():
     yield bundle_row("a late fragment", bundle(**late, fragment=(1, 2)), lines)
     yield bundle_row("a late fragment, must", bundle(**late, fragment=(1, 2)), [], must=True)
     yield bundle_row("the first fragment", bundle(**late, fragment=(0, 2)), [
-        "0 must primary-check bundle=0", "0 must age bundle=0 blocks=0",
+        "0 should primary-check bundle=0", "0 must age bundle=0 blocks=0",
     ])
     yield bundle_row("a late fragment with two ages", bundle(AGE, block(7, 3, b"\x06"), **late, fragment=(1, 2)), [
         "0 must age bundle=0 blocks=2",
@@ -250,7 +273,7 @@ def fragments():
     yield bundle_row("a whole fragment of a group", bundle(AGE, block(0, 3, b""), protecting(4, 4, 0), **wrong), [
         "0 must fragment bundle=0 offset=0 length=1 total=1", "0 should whole-fragment bundle=0 total=1",
         "0 must source-node bundle=0", "0 should expired bundle=0 lifetime=4 age=5",
-        "0 should block-type bundle=0 block=3 type=0", "0 must integrity-target bundle=0 block=4 target=4",
+        "0 should block-type bundle=0 block=3 type=0", "0 should integrity-target bundle=0 block=4 target=4",
     ])
 
 
@@ -411,9 +434,9 @@ def of_several_bundles():
     later = [line.replace("0 ", f"{at} ", 1).replace("bundle=0", "bundle=3") for line in EVERY_LINE]
     yield bundle_row("most rules twice", EVERY_RULE + keeping + record + EVERY_RULE, [*EVERY_LINE, *later])
     yield bundle_row("no rule", keeping + record + CLEAN, [])
-    # Transfers of 200, 93 and 200 bytes
+    # Transfers of 201, 55 and 201 bytes
     lines = [line.replace("0 ", "38 ", 1).replace("bundle=0", "transfer=0") for line in EVERY_LINE]
-    later = [line.replace("38 ", "293 ", 1).replace("transfer=0", "transfer=2") for line in lines]
+    later = [line.replace("38 ", "294 ", 1).replace("transfer=0", "transfer=2") for line in lines]
     yield stream_row("most rules in transfers", [sent(EVERY_RULE), sent(CLEAN, 1), sent(EVERY_RULE, 2)], lines + later)
     yield stream_row("most rules in two segments", [two(EVERY_RULE, 90)], lines)
 

@@ -155,11 +155,12 @@ SECURITY = {
             # The target is malformed. It is at 40, and its data at 46.
             (bundle(protecting(2, 3), NO_INTEGRITY), ["must block-data: block=3 byte=46", "must integrity-target: block=2 target=3"]),
             # The last target that is looked at
-            (bundle(protecting(2, *THEIRS, 1, 2), *MANY), "must integrity-target: block=2 target=2"),
+            (bundle(protecting(2, *range(300, 363), 2), **FIRST), "must integrity-target: block=2 target=2"),
+            (bundle(protecting(2, *THEIRS, 1, 2), *MANY), "should integrity-target: block=2 target=2"),
         ],
         [
             bundle(INTEGRITY), bundle(AGE, HOPS_3, protecting(4, 0, 1, 2, 3)),
-            bundle(protecting(2, *THEIRS, 1, 0, 2), *MANY),
+            bundle(protecting(2, *THEIRS, 1, 0, 2), *MANY), bundle(protecting(2, *range(300, 364), 2), **FIRST),
             (bundle(protecting(2, 12)), "should security-targets: block=2 target=12"),
             # What is ciphertext, or may be
             bundle(protecting(2, 9), HIDDEN_2), bundle(protecting(2, 2), HIDDEN_2), bundle(protecting(2, 2), **LATER),

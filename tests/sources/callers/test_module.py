@@ -774,7 +774,7 @@ class Tools(unittest.TestCase):
         self.assertEqual(tcpclkit.check(early), (b"6 should before-session type=04\n", b"", 1))
         self.assertEqual(tcpclkit.check(early, must=True), (b"", b"", 0))
         run = tcpclkit.check(2 * SEVERAL, bundles=True)
-        broken = ["must primary-check bundle={}", "should expired bundle={} lifetime=0 age=5"]
+        broken = ["should primary-check bundle={}", "should expired bundle={} lifetime=0 age=5"]
         lines = [f"{55 * n} {rule.format(n)}\n" for n in range(2) for rule in broken]
         self.assertEqual(run, ("".join(lines).encode(), b"", 1))
         for name, value in [("peer_segment", 1), ("peer_transfer", 0)]:

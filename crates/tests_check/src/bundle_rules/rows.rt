@@ -4,6 +4,8 @@
 
 pub(super) mod blocks;
 pub(super) mod data;
+pub(super) mod doubt;
+pub(super) mod nodes;
 pub(super) mod primary;
 pub(super) mod together;
 
@@ -12,10 +14,27 @@ use link_bundle_rules::{BundleRule, Level};
 /// The parts of a good bundle, and the rules that it breaks.
 pub(crate) type Row = (&'static [&'static [u8]], &'static [BundleRule]);
 
+/// The node ID of the node whose bundles and security blocks are judged, the parts of a good
+/// bundle, and the rules that it breaks.
+pub(crate) type NodeRow = (
+    &'static [u8],
+    &'static [&'static [u8]],
+    &'static [BundleRule],
+);
+
+/// The parts of a good bundle, the rules that it breaks, and the level of each of them.
+pub(crate) type LevelRow = (&'static [&'static [u8]], &'static [BundleRule], Level);
+
 /// The beginning of a bundle that breaks no rule, up to its primary block: 25 bytes.
 pub(crate) const CLEAN: &[u8] =
     b"\x9f\x89\x07\x00\x01\x82\x02\x82\x02\x01\x82\x02\x82\x01\x01\x82\x01\x00\x82\x01\
     \x00\x14\x42\xac\x4c";
+
+/// The same for a bundle of the node ipn:9.0. Other bundles are of the node ipn:1.0, and so are
+/// security blocks.
+pub(crate) const CLEAN_9: &[u8] =
+    b"\x9f\x89\x07\x00\x01\x82\x02\x82\x02\x01\x82\x02\x82\x09\x01\x82\x01\x00\x82\x01\
+    \x00\x14\x42\xa6\xa0";
 
 /// The same for a bundle without a check of its primary block.
 pub(crate) const UNCHECKED: &[u8] =

@@ -429,7 +429,7 @@ pub static IDS: [Row; 9] = [
         sent: &[INIT, Sent::Ack(START, 0, 20), Sent::Ack(END, 0, 19)],
         broken: &[(
             2,
-            Level::Must,
+            Level::Should,
             Rule::AckLength {
                 length: 19,
                 before: 20,

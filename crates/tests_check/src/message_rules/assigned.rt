@@ -117,7 +117,7 @@ pub static NAMES: [Row; 12] = [
 ];
 
 /// Types of items, rejected types, and reasons.
-pub static ASSIGNED: [Row; 21] = [
+pub static ASSIGNED: [Row; 23] = [
     Row {
         name: "item-type, broken 0",
         limits: NO_LIMITS,
@@ -217,13 +217,13 @@ pub static ASSIGNED: [Row; 21] = [
     Row {
         name: "reject-known, broken 3",
         limits: NO_LIMITS,
-        sent: &[INIT, Sent::Reject(3, 8)],
+        sent: &[INIT, Sent::Reject(3, 0)],
         broken: &[(
             1,
             Level::Should,
             Rule::RejectKnown {
                 reason: 3,
-                header: 8,
+                header: 0,
             },
         )],
     },
@@ -249,6 +249,18 @@ pub static ASSIGNED: [Row; 21] = [
         name: "reject-known, kept 3",
         limits: NO_LIMITS,
         sent: &[INIT, Sent::Reject(3, 7)],
+        broken: &[],
+    },
+    Row {
+        name: "reject-known, kept 4",
+        limits: NO_LIMITS,
+        sent: &[INIT, Sent::Reject(2, 8)],
+        broken: &[],
+    },
+    Row {
+        name: "reject-known, kept 5",
+        limits: NO_LIMITS,
+        sent: &[INIT, Sent::Reject(3, 0xf0)],
         broken: &[],
     },
     Row {

@@ -5,7 +5,7 @@
 use super::judging::{BOTH, ItemOf, NONE, START, items_of};
 use crate::bundle_rules::heads::{Seen, unread_of};
 use link_bundle_types::BundleFault;
-use link_session_rules::{Level, Opening, TransferRule, data_rule};
+use link_session_rules::{Doubt, Level, Opening, TransferRule, data_rule};
 use link_wire::{Fields, MessageBuffer, NodeId};
 
 /// The flags and the items of the first segment of a transfer, the length of the transfer's data,
@@ -82,38 +82,51 @@ fn judges_lengths_of_transfers(rt: HostRuntime) {
     }
 }
 
-/// The level of each rule.
-static LEVELS: [(TransferRule, Level); 6] = [
-    (TransferRule::Unfinished { length: 2 }, Level::Should),
-    (TransferRule::LengthItem, Level::Must),
+/// The level of each rule, by what an unknown part may have changed in the bundle.
+static LEVELS: [(TransferRule, Doubt, Level); 10] = [
     (
-        TransferRule::LengthDiffers {
-            announced: 34,
-            length: 33,
-        },
-        Level::Must,
+        TransferRule::Unfinished { length: 2 },
+        Doubt::Nothing,
+        Level::Should,
     ),
-    (TransferRule::LengthOfOneSegment, Level::Should),
+    (TransferRule::LengthItem, Doubt::Nothing, Level::Must),
+    (TransferRule::LengthItem, Doubt::WholeBundle, Level::Must),
+    (DIFFERS, Doubt::Nothing, Level::Must),
+    (DIFFERS, Doubt::WholeBundle, Level::Must),
     (
-        TransferRule::Bundle {
-            fault: BundleFault::Cut,
-            byte: 0,
-        },
-        Level::Must,
+        TransferRule::LengthOfOneSegment,
+        Doubt::Nothing,
+        Level::Should,
     ),
+    (NO_BUNDLE, Doubt::Nothing, Level::Must),
+    (NO_BUNDLE, Doubt::BlockData, Level::Must),
+    (NO_BUNDLE, Doubt::WholeBundle, Level::Should),
     (
         TransferRule::NotRead {
             fault: BundleFault::BadScheme,
             byte: 6,
         },
+        Doubt::Nothing,
         Level::Should,
     ),
 ];
 
+/// A transfer that announces 34 bytes and has 33.
+const DIFFERS: TransferRule = TransferRule::LengthDiffers {
+    announced: 34,
+    length: 33,
+};
+
+/// Data that ends before a bundle begins.
+const NO_BUNDLE: TransferRule = TransferRule::Bundle {
+    fault: BundleFault::Cut,
+    byte: 0,
+};
+
 #[test]
 fn has_the_levels_of_the_table(rt: HostRuntime) {
-    for (rule, level) in &LEVELS {
-        assert_eq!(rt; rule.level(), *level, "{rule:?}");
+    for (rule, doubt, level) in &LEVELS {
+        assert_eq!(rt; rule.level(*doubt), *level, "{rule:?} {doubt:?}");
     }
 }
 

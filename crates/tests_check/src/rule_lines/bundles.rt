@@ -1,8 +1,8 @@
 //! The lines of the rules of bundles. They are those of tests/python/rows.
 
-use super::messages::{MAX, expect};
+use super::messages::{MAX, expect, expect_in_doubt};
 use link_bundle_data::Integer;
-use link_bundle_rules::{BundleRule as Rule, Endpoint, Level};
+use link_bundle_rules::{BundleRule as Rule, Doubt, Endpoint, Level};
 use link_report_broken_rules::{BrokenRule, BundlePlace};
 use std::process::Abort;
 
@@ -92,6 +92,7 @@ static ROWS: [Row; 28] = [
             offset: 2,
             size: 1,
             total: 3,
+            level: Level::Must,
         },
         "0 must fragment bundle=0 offset=2 length=1 total=3\n",
     ),
@@ -161,7 +162,7 @@ static ROWS: [Row; 28] = [
 ];
 
 /// Rules of endpoint IDs in data, of lifetimes, of block types and of status reports.
-static DATA: [Row; 15] = [
+static DATA: [Row; 14] = [
     (
         Rule::LongHead {
             byte: 31,
@@ -217,18 +218,14 @@ static DATA: [Row; 15] = [
         "0 should block-type bundle=0 block=2 type=256\n",
     ),
     (
-        Rule::RecordType { record_type: 7 },
-        "0 should record-type bundle=0 type=7\n",
+        Rule::RecordType { record_type: 2 },
+        "0 should record-type bundle=0 type=2\n",
     ),
     (Rule::ReportTimes, "0 must report-times bundle=0\n"),
     (Rule::ReportEmpty, "0 should report-empty bundle=0\n"),
     (
-        Rule::ReportReason { reason: 17 },
-        "0 should report-reason bundle=0 reason=17\n",
-    ),
-    (
-        Rule::ReportReason { reason: MAX },
-        "0 should report-reason bundle=0 reason=18446744073709551615\n",
+        Rule::ReportReason { reason: 255 },
+        "0 should report-reason bundle=0 reason=255\n",
     ),
     (Rule::ReportSource, "0 should report-source bundle=0\n"),
 ];
@@ -344,6 +341,105 @@ static SECURITY: [Row; 14] = [
     ),
 ];
 
+/// How much an unknown part may have changed, a rule, and the line of a bundle that breaks it.
+type DoubtRow = (Doubt, Rule, &'static str);
+
+/// Lines with a level that may depend on an unknown part.
+static IN_DOUBT: [DoubtRow; 14] = [
+    (
+        Doubt::BlockData,
+        Rule::BlockData { block: 2, byte: 31 },
+        "0 should block-data bundle=0 block=2 byte=31\n",
+    ),
+    (
+        Doubt::WholeBundle,
+        Rule::BlockData { block: 2, byte: 31 },
+        "0 should block-data bundle=0 block=2 byte=31\n",
+    ),
+    (
+        Doubt::BlockData,
+        Rule::SecurityTargets {
+            block: 2,
+            target: None,
+            level: Level::Must,
+        },
+        "0 should security-targets bundle=0 block=2\n",
+    ),
+    (
+        Doubt::BlockData,
+        Rule::ConfidentialContext { block: 9 },
+        "0 should confidential-context bundle=0 block=9\n",
+    ),
+    (
+        Doubt::BlockData,
+        Rule::DtnName {
+            of: Endpoint::ReportSource,
+        },
+        "0 should dtn-name bundle=0 of=report-source\n",
+    ),
+    (
+        Doubt::BlockData,
+        Rule::DtnName {
+            of: Endpoint::ReportTo,
+        },
+        "0 must dtn-name bundle=0 of=report-to\n",
+    ),
+    (
+        Doubt::BlockData,
+        Rule::HopCount {
+            blocks: 1,
+            limit: Some(0),
+        },
+        "0 should hop-count bundle=0 blocks=1 limit=0\n",
+    ),
+    (
+        Doubt::BlockData,
+        Rule::HopCount {
+            blocks: 2,
+            limit: Some(30),
+        },
+        "0 must hop-count bundle=0 blocks=2 limit=30\n",
+    ),
+    (
+        Doubt::BlockData,
+        Rule::LongHead {
+            byte: 55,
+            level: Level::Must,
+        },
+        "0 must long-head bundle=0 byte=55\n",
+    ),
+    (
+        Doubt::BlockData,
+        Rule::PrimaryCheck { level: Level::Must },
+        "0 must primary-check bundle=0\n",
+    ),
+    (
+        Doubt::WholeBundle,
+        Rule::PrimaryCheck { level: Level::Must },
+        "0 should primary-check bundle=0\n",
+    ),
+    (
+        Doubt::BlockData,
+        Rule::Fragment {
+            offset: 0,
+            size: 0,
+            total: 2,
+            level: Level::Must,
+        },
+        "0 must fragment bundle=0 offset=0 length=0 total=2\n",
+    ),
+    (
+        Doubt::BlockData,
+        Rule::SourceNode,
+        "0 must source-node bundle=0\n",
+    ),
+    (
+        Doubt::BlockData,
+        Rule::ReportEmpty,
+        "0 should report-empty bundle=0\n",
+    ),
+];
+
 /// Checks the lines of the first bundle of an input.
 fn expect_all(rt: &impl Abort, rows: &[Row]) {
     for &(rule, want) in rows {
@@ -367,6 +463,14 @@ fn has_lines_of_security_blocks(rt: HostRuntime) {
 }
 
 #[test]
+fn has_lines_of_what_is_in_doubt(rt: HostRuntime) {
+    for &(doubt, rule, want) in &IN_DOUBT {
+        let broken = BrokenRule::Bundle(BundlePlace::Input(0), rule);
+        expect_in_doubt(&rt, 0, doubt, broken, want);
+    }
+}
+
+#[test]
 fn names_the_transfer_or_the_bundle(rt: HostRuntime) {
     let rule = Rule::Anonymous { flags: 0 };
     let in_transfer = BrokenRule::Bundle(BundlePlace::Transfer(5), rule);
@@ -387,6 +491,7 @@ fn has_the_longest_line(rt: HostRuntime) {
         offset: MAX,
         size: MAX,
         total: MAX,
+        level: Level::Must,
     };
     let want = "18446744073709551615 must fragment transfer=18446744073709551615 \
         offset=18446744073709551615 length=18446744073709551615 total=18446744073709551615\n";

@@ -1,17 +1,33 @@
 //! The lines of the rules of messages. They are those of tests/python/rows.
 
 use link_report_broken_rules::{BrokenRule, RuleText};
-use link_session_rules::{AnswerFault, Level, MessageRule as Rule};
+use link_session_rules::{AnswerFault, Doubt, Level, MessageRule as Rule};
 use link_transfer::OrderFault;
 use link_wire::{TEXT_MAX, Text};
 use std::process::Abort;
 
 pub(crate) const MAX: u64 = u64::MAX;
 
-/// Checks the line of a broken rule.
+/// Checks the line of a broken rule, if nothing is in doubt.
 pub(crate) fn expect(rt: &impl Abort, offset: u64, rule: BrokenRule, want: &str) {
+    expect_in_doubt(rt, offset, Doubt::Nothing, rule, want);
+}
+
+/// Checks the line of a broken rule, if an unknown part may have changed this much of the bundle.
+pub(crate) fn expect_in_doubt(
+    rt: &impl Abort,
+    offset: u64,
+    doubt: Doubt,
+    rule: BrokenRule,
+    want: &str,
+) {
     let mut page = [0; TEXT_MAX];
-    let end = RuleText { offset, rule }.put(&mut page, 0);
+    let line = RuleText {
+        offset,
+        level: rule.level(doubt),
+        rule,
+    };
+    let end = line.put(&mut page, 0);
     assert_eq!(rt; &page[..end], want.as_bytes(), "{want}");
 }
 
@@ -101,7 +117,7 @@ static ROWS: [Row; 29] = [
             length: 19,
             before: 20,
         },
-        "56 must ack-length length=19 before=20\n",
+        "56 should ack-length length=19 before=20\n",
     ),
     (38, Rule::Keepalive, "38 should keepalive\n"),
     (
@@ -168,9 +184,9 @@ static ROWS: [Row; 29] = [
         38,
         Rule::RejectKnown {
             reason: 0x02,
-            header: 0xff,
+            header: 0x00,
         },
-        "38 should reject-known reason=02 header=ff\n",
+        "38 should reject-known reason=02 header=00\n",
     ),
     (
         38,

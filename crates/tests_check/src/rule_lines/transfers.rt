@@ -1,9 +1,9 @@
 //! The lines of the rules of transfers. They are those of tests/python/rows.
 
-use super::messages::{MAX, expect};
+use super::messages::{MAX, expect, expect_in_doubt};
 use link_bundle_types::BundleFault;
 use link_report_broken_rules::BrokenRule;
-use link_session_rules::TransferRule as Rule;
+use link_session_rules::{Doubt, TransferRule as Rule};
 
 /// A rule, and the line of a transfer that breaks it. The transfer has the ID 0 and begins at 38.
 type Row = (Rule, &'static str);
@@ -57,4 +57,16 @@ fn has_lines_of_transfers(rt: HostRuntime) {
     let want = "18446744073709551615 should unfinished transfer=18446744073709551615 \
         length=18446744073709551615\n";
     expect(&rt, MAX, BrokenRule::Transfer(MAX, rule), want);
+}
+
+/// An extension item of an unknown type lessens the level of `bundle`, and not that of a length.
+#[test]
+fn has_lines_of_transfers_in_doubt(rt: HostRuntime) {
+    let fault = BundleFault::NotABundle;
+    let none = BrokenRule::Transfer(0, Rule::Bundle { fault, byte: 0 });
+    let want = "38 should bundle transfer=0 code=B3 byte=0\n";
+    expect_in_doubt(&rt, 38, Doubt::WholeBundle, none, want);
+    let malformed = BrokenRule::Transfer(0, Rule::LengthItem);
+    let want = "38 must length-item transfer=0\n";
+    expect_in_doubt(&rt, 38, Doubt::WholeBundle, malformed, want);
 }

@@ -32,12 +32,13 @@ record ToldRun (g : Over) (c : After-tell_run g) (seen : List ℕ) (all : List �
   tells : WritesRestOfTexts g.W.OutDevice.state g.E.OutDevice.state
       (on_output (g.C.BlockConsumer.says c.args.number seen))
       (on_output (g.C.BlockConsumer.says c.args.number all))
-      (IsDataReaderAt c.tell_run.new.reader all × g.C.BlockConsumer.knows c.tell_run.new.consumer all)
+      (IsDataReaderAt c.tell_run.new.reader all
+      × g.C.BlockConsumer.knows c.args.options.now c.tell_run.new.consumer all)
       c.args.writers.now c.tell_run.new.writers c.tell_run.result
 
 told : (g : Over) (c : After-tell_run g) (seen : List ℕ) → length seen ≡ c.args.before
     → HasJudged c.args.scan.now seen → IsDataReaderAt c.args.reader.now seen
-    → g.C.BlockConsumer.knows c.args.consumer.now seen
+    → g.C.BlockConsumer.knows c.args.options.now c.args.consumer.now seen
     → ToldRun g c seen
     (seen ++ take (c.loop-taken.taken + c.feed_block-count.result) c.args.piece.now)
 told g c seen same judged reading knows =
@@ -121,8 +122,8 @@ returns-clause-gives g c = λ seen same judged reading knows.
     let tells = c.loop-taken.invariant.tells seen same judged reading knows in
     let known = tells.known in
     let ends = ends g (goal.at-returns-clause-gives g c).After-judge_piece seen known.0 in
-    let steady = g.met.C.BlockConsumer.steady c.args.number c.loop-taken.consumer bytes rest
-    (no_more bytes rest ends) in
+    let steady = g.met.C.BlockConsumer.steady c.args.number c.args.options.now
+    c.loop-taken.consumer bytes rest (no_more bytes rest ends) in
     rw (← joined_rest seen piece taken) (record {
       texts = tells.texts;
       said = tells.said ∙ ap on_output (sym steady.0);

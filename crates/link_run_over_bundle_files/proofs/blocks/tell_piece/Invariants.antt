@@ -12,13 +12,13 @@ invariant-loop-taken g l = record {
   scanned : scan_size l.scan ≤ l.before + l.taken;
   read : read_size l.reader ≤ l.before + l.taken;
   tells : (seen : List ℕ) → length seen ≡ l.before → HasJudged l.fn.scan seen
-      → IsDataReaderAt l.fn.reader seen → g.C.BlockConsumer.knows l.fn.consumer seen
+      → IsDataReaderAt l.fn.reader seen → g.C.BlockConsumer.knows l.options l.fn.consumer seen
       → WritesRestOfTexts g.W.OutDevice.state g.E.OutDevice.state
       (on_output (g.C.BlockConsumer.says l.number seen))
       (on_output (g.C.BlockConsumer.says l.number (seen ++ take l.taken l.piece)))
       (HasJudged l.scan (seen ++ take l.taken l.piece)
       × IsDataReaderAt l.reader (seen ++ take l.taken l.piece)
-      × g.C.BlockConsumer.knows l.consumer (seen ++ take l.taken l.piece))
+      × g.C.BlockConsumer.knows l.options l.consumer (seen ++ take l.taken l.piece))
       l.fn.writers l.writers (Ok (tt {0}));
 }
 

@@ -9,6 +9,7 @@ returns-in-None-clause-gives g c = λ seen before goes come grown reading knows.
     let run = c.args.run.now in
     let same : blocks_in (seen ++ run) ≡ blocks_in seen =
     rw (sym c.in-None.ensures.block, append-nil) at grown in
-    let steady = g.met.C.BlockConsumer.steady c.args.number c.args.consumer.now seen run same in
+    let steady = g.met.C.BlockConsumer.steady c.args.number c.args.options.now c.args.consumer.now
+    seen run same in
     told_none (ap on_output (sym steady.0))
     (c.follow_cut.ensures.reads seen before reading goes come same, steady.1 knows)

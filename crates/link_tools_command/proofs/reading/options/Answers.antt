@@ -42,4 +42,4 @@ pub returns-in-Err-try_get_matches_from-clause-passes : goal.returns-in-Err-try_
 returns-in-Err-try_get_matches_from-clause-passes c = λ taken.
     let is : takes (app_of c.in-Ok.command) (map string_bytes c.args.words.now) ≡ true =
     subst (λ (a : App). takes a (map string_bytes c.args.words.now) ≡ true) (sym c.in-Ok.ensures) taken in
-    inr (inr (inr (c.usage_fault.ensures.memory (c.in-Err-try_get_matches_from.ensures.passes is))))
+    inr (inr (inr (inr (c.usage_fault.ensures.memory (c.in-Err-try_get_matches_from.ensures.passes is)))))

@@ -471,6 +471,7 @@ pub(crate) static FRAGMENTS: [Row; 16] = [
             offset: 0,
             size: 1,
             total: 2,
+            level: Level::Must,
         }],
     ),
     (
@@ -479,6 +480,7 @@ pub(crate) static FRAGMENTS: [Row; 16] = [
             offset: 0,
             size: 0,
             total: 2,
+            level: Level::Must,
         }],
     ),
     (
@@ -491,6 +493,7 @@ pub(crate) static FRAGMENTS: [Row; 16] = [
             offset: 2,
             size: 1,
             total: 2,
+            level: Level::Must,
         }],
     ),
     (
@@ -503,6 +506,7 @@ pub(crate) static FRAGMENTS: [Row; 16] = [
             offset: 1,
             size: 1,
             total: 1,
+            level: Level::Must,
         }],
     ),
     (
@@ -515,6 +519,7 @@ pub(crate) static FRAGMENTS: [Row; 16] = [
             offset: 0,
             size: 2,
             total: 1,
+            level: Level::Must,
         }],
     ),
     (
@@ -528,6 +533,7 @@ pub(crate) static FRAGMENTS: [Row; 16] = [
             offset: u64::MAX,
             size: 1,
             total: u64::MAX,
+            level: Level::Must,
         }],
     ),
     // Ciphertext may pass the end, but is not empty. Another block says nothing of the payload.
@@ -537,6 +543,7 @@ pub(crate) static FRAGMENTS: [Row; 16] = [
             offset: 0,
             size: 0,
             total: 2,
+            level: Level::Must,
         }],
     ),
     (
@@ -550,6 +557,7 @@ pub(crate) static FRAGMENTS: [Row; 16] = [
             offset: 0,
             size: 1,
             total: 2,
+            level: Level::Must,
         }],
     ),
     (
@@ -564,6 +572,7 @@ pub(crate) static FRAGMENTS: [Row; 16] = [
             offset: 2,
             size: 1,
             total: 2,
+            level: Level::Must,
         }],
     ),
     (
@@ -580,6 +589,7 @@ pub(crate) static FRAGMENTS: [Row; 16] = [
             offset: 2,
             size: 1,
             total: 2,
+            level: Level::Must,
         }],
     ),
     (&[FRAGMENT, PAYLOAD], &[]),

@@ -22,7 +22,9 @@ pub(crate) static TOGETHER: [Row; 18] = [
                 level: Level::Must,
             },
             Rule::BundleFlags { flags: 0x400b },
-            Rule::PrimaryCheck { level: Level::Must },
+            Rule::PrimaryCheck {
+                level: Level::Should,
+            },
             Rule::Anonymous { flags: 0x400b },
             Rule::RecordReports { flags: 0x400b },
             Rule::BlockReports { block: 4 },
@@ -37,6 +39,7 @@ pub(crate) static TOGETHER: [Row; 18] = [
                 offset: 0,
                 size: 0,
                 total: 0,
+                level: Level::Must,
             },
             Rule::WholeFragment { total: 0 },
             Rule::Age {
@@ -245,6 +248,7 @@ pub(crate) static TOGETHER: [Row; 18] = [
             offset: 0,
             size: 0,
             total: 0,
+            level: Level::Must,
         }],
     ),
     // a late fragment
@@ -291,6 +295,7 @@ pub(crate) static TOGETHER: [Row; 18] = [
                 offset: 0,
                 size: 0,
                 total: 0,
+                level: Level::Must,
             },
             Rule::WholeFragment { total: 0 },
         ],
@@ -307,6 +312,7 @@ pub(crate) static TOGETHER: [Row; 18] = [
                 offset: 0,
                 size: 1,
                 total: 1,
+                level: Level::Must,
             },
             Rule::WholeFragment { total: 1 },
         ],

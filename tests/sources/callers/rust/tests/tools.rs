@@ -108,7 +108,7 @@ fn check_of_bundles_has_no_peer() {
         ..CheckOptions::default()
     };
     let run = check(&example("two.bundles")[..34], &options).unwrap();
-    let lines = b"0 must primary-check bundle=0\n0 must age bundle=0 blocks=0\n";
+    let lines = b"0 should primary-check bundle=0\n0 must age bundle=0 blocks=0\n";
     assert_eq!((run.output, run.exit_status), (lines.to_vec(), 1));
     assert_eq!(check(b"", &options).unwrap().exit_status, 0);
     assert_eq!(check(b"\x00", &options).unwrap().exit_status, 3);

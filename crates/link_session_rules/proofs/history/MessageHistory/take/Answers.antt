@@ -10,7 +10,9 @@ returns c before at =
     let initiated = c.is_initiated-initiated.ensures before at in
     record {
       parameters = rw (messages_of-push before head)
-          (c.parameters_after-self.ensures (messages_of before) at.parameters);
+          (c.keep_first.ensures.parameters (messages_of before) at.parameters);
+      node = rw (messages_of-push before head)
+          (c.keep_first.ensures.node (messages_of before) at.parameters at.node);
       session = rw c.session_after-self.ensures (session_then before head _ at.session);
       keepalives = rw c.keepalives_after-self.ensures (keepalives_then before head _ at.keepalives);
       ids = rw (newest_then before head) (c.take-2.ensures (newest before) initiated at.ids);

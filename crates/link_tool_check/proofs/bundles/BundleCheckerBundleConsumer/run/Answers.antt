@@ -1,5 +1,3 @@
-use Rattle.std.proofs.Common.{◌++◌}
-use Rattle.link_bundle_types.specs.BundleView.{viewed_info}
 use Rattle.link_run_over_bundle_files.specs.Telling.{with_bytes}
 use Rattle.link_run_over_bundle_files.proofs.Told.{told_known, told_then}
 use Rattle.link_tool_check.proofs.BundleTexts.{tells_lost, tells_on}
@@ -12,7 +10,7 @@ returns-in_default-clause-gives g c = λ before knows comes. rw c.in_default.is
 
 pub returns-in-Err-clause-gives : goal.returns-in-Err-clause-gives
 returns-in-Err-clause-gives g c = λ before knows comes. rw c.in-Some.is
-    (tells_lost c.args.must.now before.bundles _
+    (tells_lost c.args.options.now before.bundles _
     (c.in-Err.ensures.gives _ before knows.reading comes))
 
 pub returns-in-Ok-clause-gives : goal.returns-in-Ok-clause-gives

@@ -4,13 +4,14 @@ use Rattle.link_session_rules.specs.Remembered.{IsMessageHistoryAt}
 use Rattle.link_report_broken_rules.specs.declared.line.RuleText.{RuleText}
 use Rattle.link_run_over_transfers.specs.Telling.{HeadComes, data_ends, viewed_head}
 use Rattle.link_run_over_transfers.specs.Walk.{Head, WalkEvent, ContactHeader, LeftOpen, MessageHead, closes, has_open, is_beginning}
-use Rattle.link_tool_check.specs.Checker.{IsCheckedTransferAtLatest, IsCheckerAt, closed_due, kept_of}
+use Rattle.link_tool_check.specs.Checker.{IsCheckedTransferAtLatest, IsCheckerAt, kept_of}
+use Rattle.link_session_rules.specs.Heads.{HeadWithOrder}
 use Rattle.link_tool_check.specs.Checking.{BegunTransfer, begun_by, broken_by, head_rules, judged, with_bytes}
 use Rattle.link_tool_check.specs.declared.checker.Checker.{Checker}
 use Rattle.link_tool_option_types.specs.declared.check.CheckOptions.{CheckOptions}
 use Rattle.link_run_over_bundle_files.proofs.Told.{on_ok_by}
 use Rattle.link_tool_check.proofs.Writing.{part_written, quiet_written, then_written}
-use Rattle.link_tool_check.proofs.Kept.{IsLatestRead, closes_read, data_said, inner_said, known_data, known_inner, known_one, opens_read, read_after, said_one, tells}
+use Rattle.link_tool_check.proofs.Kept.{IsLatestRead, closes_read, due, data_said, inner_said, known_data, known_inner, known_one, opens_read, read_after, said_one, tells}
 use Rattle.link_tool_check.proofs.checker.CheckerConsumer.event.Given.{Over}
 use Rattle.link_tool_check.proofs.checker.CheckerConsumer.event.Goals as goal
 use Rattle.link_tool_check.proofs.checker.CheckerConsumer.event.Goals.{After-close, then-begins, else-begins}
@@ -39,13 +40,16 @@ module _ (options : CheckOptions) (before : List WalkEvent) (head : Head) where
   abbrev latest : Option BegunTransfer
   latest = begun_by head (kept_of options before).latest
 
+  abbrev heads : List HeadWithOrder
+  heads = (kept_of options before).heads ++ judged head ∷ []
+
   abbrev closed : List RuleText
-  closed = closed_due (closes head) latest
+  closed = due options before (closes head) heads latest
 
 -- the state after the head, which may have begun a transfer
 record AtHead (now old : Checker) (written : Bool) (options : CheckOptions) (before : List WalkEvent) (head : Head)
     : Type 0 where
-  read : IsLatestRead now.latest (latest options before head) (is_beginning head.turn) (has_open before)
+  read : IsLatestRead options.own.items now.latest (latest options before head) (is_beginning head.turn) (has_open before)
   size : now.latest.judge.size ≤ old.latest.judge.size
   history : IsMessageHistoryAt now.history ((kept_of options before).heads ++ judged head ∷ [])
   good : now.good ≡ written
@@ -62,15 +66,17 @@ at_head g c before knows comes =
     let history = c.judge-written.ensures.history kept.heads knows.history in
     elim c.if-begins.branch [
       | then-begins w ↦ rw w.self-is (record {
-        read = read_after before head comes kept.latest old.latest w.begin.new.self knows.at_open
-            (λ first begins is starts. w.begin.ensures.follows first is starts)
+        read = read_after before head comes options.own.items kept.latest old.latest
+            w.begin.new.self knows.at_open
+            (λ first begins is starts. w.begin.ensures.follows first is starts options.own.items)
             (λ none. absurd (false≢true (sym none ∙ (sym c.begins.ensures ∙ w.if-begins.true))));
         size = w.begin.ensures.size;
         history = history;
         good = refl;
       })
       | else-begins w ↦ rw w.self-is (record {
-        read = read_after before head comes kept.latest old.latest old.latest knows.at_open
+        read = read_after before head comes options.own.items kept.latest old.latest old.latest
+            knows.at_open
             (λ first begins is starts.
             absurd (false≢true (sym (sym c.begins.ensures ∙ w.if-begins.false) ∙ begins)))
             (λ none. refl);
@@ -99,13 +105,13 @@ returns-in_default g c = rw c.in-Head.is (λ before knows comes.
     let latest = latest options before head in
     let mid = c.if-begins.self in
     let state = at_head g c before knows comes in
-    let due = λ (is : c.closes.result ≡ true).
+    let closing = λ (is : c.closes.result ≡ true).
     state.read (closes_read before head comes (sym c.closes.ensures ∙ is)) in
     let now : Checker = record mid { good = c.close.new.good } in
     let both =
     then_written (own options before head) (closed options before head)
     (rw (← state.good) at (c.in_default.ensures.gives kept.heads knows.history))
-    (rw c.closes.ensures at (c.close.ensures latest due)) in
+    (rw (c.closes.ensures, c.node.ensures _ state.history) at (c.close.ensures latest closing)) in
     tells options before now (MessageHead head ∷ []) (broken_by options kept (MessageHead head))
     (said_one options before (MessageHead head)) both
     (on_ok_by c.close.result
@@ -169,7 +175,7 @@ returns-in-Err-take-2 g c = rw c.in-Data.is (λ before knows may.
     let few = may.1 in omega (arith, knows.size) in
     let at = knows.at_open may.0 in
     tells options before _ (data_ends bytes whole)
-    (closed_due whole (Some (with_bytes bytes at.begun)))
+    (due options before whole (kept_of options before).heads (Some (with_bytes bytes at.begun)))
     (rw at.is at (data_said options before bytes whole))
     (part_written {other = true} [] _ (quiet_written {good = true}
     (c.in-Err-take-2.ensures.gives at.begun fits at.checks))) tt)
@@ -186,7 +192,7 @@ returns-in_default-take-2 g c = rw c.in-Data.is (λ before knows may.
     let at = knows.at_open may.0 in
     let begun = with_bytes bytes at.begun in
     let told = c.in_default-take-2.ensures.gives at.begun fits at.checks in
-    let read : IsCheckedTransferAtLatest c.take-in-Data.new.self (Some begun) =
+    let read : IsCheckedTransferAtLatest options.own.items c.take-in-Data.new.self (Some begun) =
     record { begun = begun; is = refl; checks = told.known } in
     let now : Checker = record {
       history = old.history;
@@ -194,8 +200,9 @@ returns-in_default-take-2 g c = rw c.in-Data.is (λ before knows may.
       good = c.close-in-Data.new.good;
     } in
     let writes = then_written [] _ (quiet_written told)
-    (c.close-in-Data.ensures (Some begun) (λ is. read)) in
-    tells options before now (data_ends bytes whole) (closed_due whole (Some begun))
+    (rw (c.node-sender.ensures _ knows.history) at (c.close-in-Data.ensures (Some begun) (λ is. read))) in
+    tells options before now (data_ends bytes whole)
+    (due options before whole kept.heads (Some begun))
     (rw at.is at (data_said options before bytes whole)) writes
     (on_ok_by c.close-in-Data.result
     (λ good. known_data options before bytes whole now at.begun at.is
@@ -212,7 +219,7 @@ returns-in-LeftOpen g c = rw c.in-LeftOpen.is (λ before knows opened.
     let kept = kept_of options before in
     let at = knows.at_open opened in
     let now : Checker = record old { good = c.write_open.new.good } in
-    let writes = c.write_open.ensures at.begun at.checks in
+    let writes = c.write_open.ensures options.own.items at.begun at.checks in
     tells options before {good = old.good} {later = c.write_open.new.good} now (LeftOpen ∷ [])
     (broken_by options kept LeftOpen) (said_one options before LeftOpen) (rw at.is writes)
     (on_ok_by c.write_open.result
