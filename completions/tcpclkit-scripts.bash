@@ -5,11 +5,11 @@ _tcpclkit_script() {
   local words='' numbers='' paths='' sides='' flags='-h --help' again=''
   COMPREPLY=()
   case ${COMP_WORDS[0]##*/} in
-    tcpclkit-capture) numbers='--port' paths='--tcpclkit' flags+=' --check --page' again='--port' ;;
+    tcpclkit-capture) numbers='--port' paths='--tcpclkit' flags+=' --check --page --own' again='--port' ;;
     tcpclkit-split) paths='--tcpclkit' flags+=' --keep-going' ;;
     tcpclkit-pair) sides='--closed' paths='--tcpclkit' ;;
     tcpclkit-resync) numbers='--longest' paths='-o --output' flags+=' --start' ;;
-    tcpclkit-check-session) sides='--closed' paths='--times --tcpclkit' flags+=' --must' ;;
+    tcpclkit-check-session) sides='--closed' paths='--times --tcpclkit' flags+=' --must --own' ;;
     tcpclkit-page) sides='--closed' paths='-o --output --times --tcpclkit' ;;
   esac
   # bash cuts a value at `=`.

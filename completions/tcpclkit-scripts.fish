@@ -6,6 +6,7 @@ end
 
 complete -c tcpclkit-capture -n 'not __fish_contains_opt check' -l check -d 'write the rules that each side breaks'
 complete -c tcpclkit-capture -n 'not __fish_contains_opt page' -l page -d 'write a page of each session'
+complete -c tcpclkit-capture -n 'not __fish_contains_opt own' -l own -d 'judge only what its own node wrote'
 complete -c tcpclkit-capture -x -l port -d 'the port of TCPCL'
 complete -c tcpclkit-capture -r -l tcpclkit -d 'the program that reads the recordings'
 
@@ -22,6 +23,7 @@ complete -c tcpclkit-resync -x -l longest -d 'the greatest length that a segment
 complete -c tcpclkit-check-session -r -l times -d 'when the bytes of both sides were captured'
 complete -c tcpclkit-check-session -x -l closed -a 'a b ab' -d 'these sides closed the connection'
 complete -c tcpclkit-check-session -n 'not __fish_contains_opt must' -l must -d 'write lines of level `must` alone'
+complete -c tcpclkit-check-session -n 'not __fish_contains_opt own' -l own -d 'judge only what its own node wrote'
 complete -c tcpclkit-check-session -r -l tcpclkit -d 'the program that reads the recordings'
 
 complete -c tcpclkit-page -r -s o -l output -d 'write the page to this file'

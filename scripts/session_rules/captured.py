@@ -9,14 +9,16 @@ CONTACT_LENGTH = 6
 
 
 class Captured(NamedTuple):
-    """What a capture shows of a side, by the acknowledgement numbers of TCP.
+    """What a capture shows of a side.
 
+    shown     what its packets show by the numbers and windows of TCP (tcpclkit_scripts/shown.py)
     seen      how many bytes of the other side had come when this one sent its contact header. It is
               None unless this side accepted the connection
     taken     how many bytes of the other side had come when this one sent its FIN, or None
     is_reset  whether this side ended the connection by an RST
     """
 
+    shown: object
     seen: Optional[int] = None
     taken: Optional[int] = None
     is_reset: bool = False
@@ -30,7 +32,7 @@ def judge(side):
     if known.seen is not None and known.seen < CONTACT_LENGTH:
         side.claim(0, MUST, "contact-order", f"seen={known.seen}")
     if known.is_reset:
-        side.claim(side.listing.end, MUST if side.terms else SHOULD, "reset")
+        side.claim(side.listing.end, SHOULD, "reset")
 
 
 def is_left(side, transfer, segment):

@@ -1,10 +1,11 @@
 """What is judged when both recordings were read: beginnings and endings, and what is missing."""
 
 from . import captured
-from .answers import acknowledged_after, claim_missing, claim_order, compare
-from .facts import ACK, CRITICAL, INIT, KEEPALIVE, REFUSE, REJECT, REPLY, TERM
-from .sending import claim_left
+from .answers import acknowledged_after, claim_order, compare, compare_again, judge_refuse, refused_left
+from .facts import ACK, CRITICAL, INIT, KEEPALIVE, REFUSE, REJECT, REPLY, START, TERM
+from .sending import claim_left, keep_claims
 from .sides import MUST, SHOULD
+from .tails import BEGINNING, has_messages
 
 # The flag of a contact header (RFC 9174 section 4.2)
 CAN_TLS = 0x01
@@ -54,11 +55,11 @@ def tls(side, is_agreed):
 def version(side, number):
     """Judges the first message after a contact header of another version.
 
-    A SESS_TERM with a reason that says nothing of the header may have been sent before that came. A
-    lower version may be refused for other reasons too.
+    Either side may refuse the session with an appropriate reason (RFC 9174 section 4.2). Only the side
+    that accepted the connection has to give the reason "Version mismatch", for a higher version.
     """
-    first = side.first
-    if first.kind != TERM or first.reason == CONTACT_FAILURE and number > VERSION:
+    first, is_failure = side.first, side.first.kind == TERM and side.first.reason == CONTACT_FAILURE
+    if first.kind != TERM or is_failure and number > VERSION and side.has_accepted():
         side.claim(first.offset, MUST, "version", f"type={first.kind:02x} version={number}")
 
 
@@ -66,15 +67,19 @@ def after_bad_contact(side):
     """Judges the first message after bytes that are no contact header.
 
     If these bytes may be a message, or the zeros of a gap, the beginning may be missing. So it may
-    if this side went on as in a session, or rejected a message of their type.
+    if this side went on as in a session, or rejected a message of their type. Unless a capture shows
+    where they begin, they may be the end of a message, too.
     """
     with open(side.other.path, "rb") as file:
-        byte = file.read(1)[0]
-    first = side.first
+        begin = file.read(BEGINNING + 1)
+    first, is_begun = side.first, side.has_accepted()
     is_blind = first.kind == TERM and first.reason not in (VERSION_MISMATCH, CONTACT_FAILURE)
-    is_message = byte <= INIT or byte in side.rejects
-    if not is_message and side.first_use is None and not is_blind:
-        side.claim(first.offset, MUST, "after-bad-contact", f"type={first.kind:02x}")
+    is_message = begin[0] <= INIT or begin[0] in side.rejects
+    if is_message or is_blind or side.first_use is not None:
+        return
+    if is_begun or len(begin) <= BEGINNING and not has_messages(begin):
+        level = MUST if is_begun else SHOULD
+        side.claim(first.offset, level, "after-bad-contact", f"type={first.kind:02x}")
 
 
 # ---- a session
@@ -84,12 +89,13 @@ def judge_session(side):
     """Judges what a side sent in a session, and what it did not send."""
     no_session(side)
     critical_ignored(side)
+    keepalive(side)
     rejects(side)
     terms(side)
     unanswered(side)
     if side.is_over():
         for ident, (offset, words) in side.accepted.items():
-            side.claim(offset, MUST, "length-not-refused", f"id={ident} {words}")
+            side.claim(offset, side.level_of_missing(), "length-not-refused", f"id={ident} {words}")
 
 
 def no_session(side):
@@ -98,15 +104,29 @@ def no_session(side):
         side.claim(side.first_segment, MUST, "no-session", if_known=not side.is_unready)
 
 
+def first_init(side):
+    """Returns the first SESS_INIT of a side, or None."""
+    return side.inits[0] if side.inits else None
+
+
 def critical_ignored(side):
     """Judges whether a side goes on after a critical session item that it does not send itself."""
-    own, init = side.listing.init, side.other.listing.init
+    own, init = first_init(side), first_init(side.other)
     if init is None or side.first_use is None:
         return
     known = {it.kind for it in own.items} if own else set()
     is_critical = any(it.flags & CRITICAL and it.kind not in known for it in init.items)
-    if is_critical and not any(term.reason == CONTACT_FAILURE for term in side.terms):
+    if is_critical and not any(reason == CONTACT_FAILURE for _, reason in side.terms):
         side.claim(side.first_use, SHOULD, "critical-ignored", f"peer-at={init.offset}")
+
+
+def keepalive(side):
+    """Judges the first KEEPALIVE by the interval of the other side. `check` does so by its own."""
+    own, init = first_init(side), first_init(side.other)
+    if side.first_keepalive is None or init is None or init.numbers[0] > 0:
+        return
+    if own is None or own.numbers[0] > 0:
+        side.claim(side.first_keepalive, SHOULD, "keepalive", "peer-interval=0")
 
 
 def rejects(side):
@@ -132,7 +152,7 @@ def is_unknown(side, fault):
     A zero may be that of a gap. A type of private use, or one after session items of both sides,
     may have been negotiated.
     """
-    inits = [each.listing.init for each in (side, side.other)]
+    inits = [first_init(each) for each in (side, side.other)]
     is_negotiated = all(init is not None and init.items for init in inits)
     is_tls = fault.offset == FIRST and fault.type_byte() in RECORDS
     if fault.type_byte() == 0 or fault.type_byte() >= PRIVATE or is_negotiated or is_tls:
@@ -143,7 +163,7 @@ def is_unknown(side, fault):
 def unexpected(side, kind, offset):
     """Judges that a message out of place was not rejected."""
     if side.is_over():
-        not_rejected(side, kind, offset, MUST if side.seen >= offset else SHOULD)
+        not_rejected(side, kind, offset, side.level_of_missing() if side.seen >= offset else SHOULD)
 
 
 def not_rejected(side, kind, offset, level):
@@ -153,15 +173,15 @@ def not_rejected(side, kind, offset, level):
 
 def terms(side):
     """Judges SESS_TERM."""
-    asked = [term for term in side.other.terms if not term.flags & REPLY]
-    replies = [term for term in side.terms if term.flags & REPLY]
-    if replies and replies[0] is side.terms[0] and not asked:
-        has_other = bool(side.other.terms)
-        side.claim(replies[0].offset, SHOULD if has_other else MUST, "reply-alone", if_known=not has_other)
-    if replies and asked and not any(repeats(replies[0], term) for term in asked):
-        reply_differs(side, replies[0], asked[0])
-    if asked and not side.terms and side.is_whole():
-        level = MUST if side.has_seen(asked[0]) else SHOULD
+    others, first = side.other.terms.values(), side.first_term()
+    asked = [term for term in others if not term.flags & REPLY]
+    reply = next((term for term in side.terms.values() if term.flags & REPLY), None)
+    if reply is not None and reply is first and not asked:
+        side.claim(reply.offset, SHOULD if others else MUST, "reply-alone", if_known=not others)
+    if reply is not None and asked and not any(repeats(reply, term) for term in asked):
+        reply_differs(side, reply, asked[0])
+    if asked and first is None and side.is_whole():
+        level = side.level_of_missing() if side.has_seen(asked[0]) else SHOULD
         side.claim(side.listing.end, level, "term-unanswered", f"peer-at={asked[0].offset}")
 
 
@@ -178,30 +198,67 @@ def reply_differs(side, reply, term):
     side.claim(reply.offset, SHOULD if is_clear else MUST, "reply-differs", words)
 
 
+# ---- answers that are missing
+
+
 def unanswered(side):
     """Judges the transfers of the other side that have no answer, or not all, or were left."""
+    excused = side.of_segments
     for transfer in side.other.sent.values():
+        is_judged = transfer.is_judged and transfer.refused is None and not transfer.is_early
+        left = segments_left(side, transfer) if is_judged else []
         if transfer.left is not None and transfer.refused is None:
-            claim_left(side.other, transfer, MUST if transfer.unanswered() <= 0 else SHOULD)
-        if transfer.is_judged and transfer.refused is None:
-            missing(side, transfer)
+            left_open(side, transfer, left)
+        if is_judged and not transfer.is_interleaved():
+            excused = missing(side, transfer, left, excused)
+        keep_claims(side.other, transfer)
 
 
-def missing(side, transfer):
-    """Judges the answers to a transfer that may lack some."""
-    compare(side, transfer, False)
-    if transfer.unanswered() <= 0 or transfer.extra:
-        return
-    segment, end = transfer.pending[len(transfer.strange)], side.listing.end
-    if side.is_over() and side.answered > segment.offset:
-        claim_missing(side, transfer, segment, end, MUST)
-    elif side.is_over() and side.seen > segment.offset:
-        claim_missing(side, transfer, segment, end, SHOULD)
-    elif transfer.overtaken is not None:
-        claim_order(side, transfer)
-    elif captured.is_left(side, transfer, segment):
-        words = f"id={transfer.ident} peer-at={segment.offset}"
-        side.claim(end, SHOULD, "unanswered-at-close", words)
+def segments_left(side, transfer):
+    """Judges the XFER_ACK of a transfer that were not due. Returns its segments without an answer."""
+    if transfer.again is None:
+        return compare(side, transfer)
+    compare_again(side, transfer)
+    return []
+
+
+def left_open(side, transfer, left):
+    """Judges a transfer that its sender left without END. If its START may have been rejected, it was
+    not begun. Part of a recording that is not closed may have refused it."""
+    may_be_refused = not side.is_over() and side.seen < transfer.left.offset
+    is_begun = not (side.of_segments and left and left[0].flags & START)
+    if is_begun and not may_be_refused:
+        claim_left(side.other, transfer, SHOULD if left else MUST)
+
+
+def missing(side, transfer, left, excused):
+    """Judges the segments of a transfer that have no answer. `excused` is how many of them may have
+    been rejected. Returns how many of those are left for other transfers."""
+    if transfer.extra:
+        return excused
+    missed = [it for it in left if is_missed(side, it)]
+    level = level_of(side, missed[excused]) if len(missed) > excused else None
+    if left and transfer.overtaken is not None and level != MUST:
+        claim_order(side, transfer, transfer.overtaken[1] - 1)
+    if level is not None:
+        words = f"id={transfer.ident} peer-at={missed[excused].offset}"
+        side.claim(side.listing.end, level, "ack-missing", words)
+    elif len(left) > excused and transfer.overtaken is None and captured.is_left(side, transfer, left[excused]):
+        words = f"id={transfer.ident} peer-at={left[excused].offset}"
+        side.claim(side.listing.end, SHOULD, "unanswered-at-close", words)
+    return max(0, excused - len(missed))
+
+
+def is_missed(side, segment):
+    """Returns whether an XFER_ACK is known to be missing: a side has seen the segment, and the
+    connection has ended, but the other side is not known to have ended it first."""
+    return side.is_over() and side.closed_first() is not False and side.seen > segment.offset
+
+
+def level_of(side, segment):
+    """Returns the level of a missing XFER_ACK. In an unclean end after a SESS_TERM, a side only should
+    acknowledge all segments (RFC 9174 section 6.1)."""
+    return side.level_of_missing() if side.answered > segment.offset and not side.terms else SHOULD
 
 
 # ---- answers to nothing
@@ -211,26 +268,44 @@ def judge_waiting(side):
     """Judges the answers of a side that belong to no segment of the other one."""
     for ident, waiting in side.waiting.items():
         transfer = side.other.sent.get(ident)
-        for message, _ in waiting:
-            side.ack_lengths.pop(message.offset, None)
+        for message, came in waiting:
             if transfer is None:
                 judge_other(side, ident, message)
-            elif message.kind == REFUSE:
-                transfer.refused = transfer.refused or message
+                continue
+            side.of_answers.pop(message.offset, None)
+            if message.kind == REFUSE and transfer.refused is None:
+                refused_late(side, transfer, message, came)
             elif message.kind == ACK and transfer.refused is not None:
                 acknowledged_after(side, transfer, message)
             elif message.kind == ACK and transfer.is_judged:
                 transfer.strange.append(message)
 
 
+def refused_late(side, transfer, message, came):
+    """Judges an XFER_REFUSE of a transfer that is open at the end, or whose answers cannot be told from
+    others."""
+    if transfer.is_judged:
+        judge_refuse(side, transfer, message, came)
+    else:
+        transfer.refused = message
+        if transfer.left is not None:
+            refused_left(side, transfer)
+
+
 def judge_other(side, ident, message):
-    """Judges an answer that belongs to no segment."""
+    """Judges an answer that belongs to no segment. What does not fit into memory accuses nobody."""
     other, is_ack = side.other, message.kind == ACK
+    is_known, is_full = ident in other.over, other.over.is_full or other.strays.is_full
+    lines = side.of_answers.pop(message.offset, ())
+    if not (is_known or is_full or ident in other.strays):
+        side.lines += [line for line in lines if line.rule == "answer-order"]
+    if not is_ack:
+        side.accepted.pop(ident, None)
     if is_ack and ident in other.refused:
         side.claim(message.offset, SHOULD, "refused-acknowledged", f"id={ident}")
-    elif is_ack and ident in other.over:
+    elif is_ack and is_known and not other.refused.is_full:
         side.claim(message.offset, MUST, "ack-beyond", f"id={ident}", if_known=True)
-    elif not (ident in other.over or ident in other.strays or other.over.is_full):
+    elif not (is_known or is_full or ident in other.strays):
         rule = "ack-unknown" if is_ack else "refuse-unknown"
         side.claim(message.offset, MUST, rule, f"id={ident}", if_known=True)
         if other.is_known(message.offset):

@@ -190,11 +190,12 @@ class Broken(NamedTuple):
 
 
 class Check:
-    """A run of `check` with the limits of the peer, each a number or None."""
+    """A run of `check` with the limits of the peer and the node whose bundles are judged. Each may be
+    None."""
 
-    def __init__(self, tcpclkit, path, peer_segment, peer_transfer):
+    def __init__(self, tcpclkit, path, peer_segment, peer_transfer, node):
         self.path, self.fault = path, ""
-        limits = [("--peer-segment", peer_segment), ("--peer-transfer", peer_transfer)]
+        limits = [("--peer-segment", peer_segment), ("--peer-transfer", peer_transfer), ("--own", node)]
         options = [word for name, it in limits if it is not None for word in (name, str(it))]
         pipes = {"stdout": subprocess.PIPE, "stderr": subprocess.PIPE}
         words = [tcpclkit, "check", *options, "--", path]

@@ -3,8 +3,9 @@
 import hashlib
 from typing import NamedTuple
 
+from .bundles import can_be_fragmented
 from .facts import CRITICAL, END, SEGMENT, START
-from .sides import KEPT, MUST, SHOULD, SLACK, Segment, Transfer
+from .sides import MUST, SHOULD, SLACK, Segment, Transfer
 
 # The extension type of a Transfer Length item (RFC 9174 section 5.2.5.1)
 TRANSFER_LENGTH = 0x0001
@@ -21,53 +22,70 @@ def take_segment(side, message, came):
     opened = side.opened
     is_open, starts = opened is not None and opened.ident == message.ident, message.flags & START
     if not starts and not is_open:
-        if len(side.strays) < KEPT:
-            side.strays.setdefault(message.ident, message.offset)
+        stray(side, message)
         return
-    if starts and is_open:
-        opened.is_odd = True
-    elif starts:
+    if starts and not is_open:
         begin(side, message)
+    elif starts and opened.again is None:
+        opened.again = opened.count
     add(side, side.opened, message, came)
+
+
+def stray(side, message):
+    """Takes a segment that continues no open transfer."""
+    side.strays.add(message.ident)
+    transfer = side.sent.get(message.ident)
+    if transfer is not None and transfer.left is not None:
+        transfer.extra += 1
 
 
 def begin(side, message):
     """Begins a transfer. One that is open is left without END."""
-    if side.opened is not None:
-        leave(side, side.opened, message)
     if side.first_segment is None:
         side.first_segment = message.offset
     transfer = Transfer(message, side.seen)
+    if side.opened is not None:
+        leave(side, side.opened, transfer, message)
     earlier = side.sent.pop(message.ident, None)
     if earlier is not None:
         replace(side, earlier)
         transfer.is_judged = False
     side.sent[message.ident] = side.opened = transfer
-    transfer.is_odd = not side.inits
-    ended = side.other.terms[0] if side.other.terms else None
-    knows = ended is not None and side.seen >= ended.offset
-    transfer.is_late = bool(side.terms) or knows
-    if knows and not side.terms:
-        side.claim(message.offset, MUST, "ending", f"id={message.ident} type={SEGMENT:02x}")
+    transfer.is_early = not side.inits
+    if side.terms or side.other.terms:
+        late(side, transfer)
+
+
+def late(side, transfer):
+    """Notes whether a transfer begins when the session is ending, and judges it before the own
+    SESS_TERM. `check` judges it after that."""
+    transfer.is_warned = side.has_seen(side.other.first_term())
+    transfer.is_late = transfer.is_warned or bool(side.terms)
+    if transfer.is_warned and not side.terms:
+        side.claim(transfer.offset, SHOULD, "ending", f"id={transfer.ident} type={SEGMENT:02x}")
 
 
 def replace(side, transfer):
     """Forgets a transfer that has no answer, since another one with its ID begins."""
-    side.unanswered -= transfer.unanswered()
+    if transfer.is_counted:
+        side.unanswered -= transfer.unanswered()
+    keep_claims(side, transfer)
 
 
-def claim_left(side, transfer, level, is_sure=False):
-    """Keeps the line of a transfer that was left without END. Unless it is sure that there was no
-    refusal before, the other recording has to show that."""
+def claim_left(side, transfer, level):
+    """Keeps the line of a transfer that was left without END."""
     words = f"id={transfer.left.ident} open={transfer.ident}"
-    side.claim(transfer.left.offset, level, "interleaved", words, if_known=not is_sure)
+    side.claim(transfer.left.offset, level, "interleaved", words)
 
 
-def leave(side, transfer, message):
-    """Leaves a transfer without END, since a message begins another one."""
+def leave(side, transfer, follower, message):
+    """Leaves a transfer without END, since a message begins another one. Its sender may do so if it
+    was refused. That may still be found."""
     transfer.left, transfer.is_open = message, False
     if transfer.refused is not None:
         drop(side, transfer)
+    else:
+        transfer.follower, follower.is_mixed = follower, True
 
 
 def drop(side, transfer):
@@ -76,6 +94,14 @@ def drop(side, transfer):
     side.over.add(transfer.ident)
     if transfer.refused is not None:
         side.refused.add(transfer.ident)
+    if transfer.claims:
+        keep_claims(side, transfer)
+
+
+def keep_claims(side, transfer):
+    """Keeps the lines about a transfer, unless its sender interleaved it."""
+    if transfer.claims and not transfer.is_interleaved():
+        side.other.claims += transfer.claims
 
 
 def add(side, transfer, message, came):
@@ -86,10 +112,12 @@ def add(side, transfer, message, came):
     transfer.total += message.length
     if len(transfer.pieces) < PIECES:
         transfer.pieces.append((message.end - message.length, message.end))
-    if transfer.is_odd:
+    if transfer.is_early:
         transfer.extra += 1
     elif transfer.refused is None:
-        transfer.pending.append(Segment(message.offset, message.flags, transfer.total, came and came.last, message.end))
+        numbers = message.offset, message.flags, message.length, transfer.total
+        transfer.pending.append(Segment(*numbers, came and came.last, message.end))
+        transfer.free[message.flags] += 1
         side.unanswered += 1
     if message.flags & END:
         side.opened, transfer.is_open = None, False
@@ -155,12 +183,20 @@ def note_refused(side, transfer):
         del side.retries[next(iter(side.retries))]
 
 
+def is_to_change(side, transfer, found):
+    """Returns whether a bundle should not be sent again as it was. After NO_RESOURCES it should be
+    fragmented, if it can be. After NOT_ACCEPTABLE, other extension items are a change."""
+    if found.refusal.reason == NO_RESOURCES:
+        return can_be_fragmented(side.file, transfer.pieces)
+    return digest(side, [transfer.listed]) == found.listed
+
+
 def retried(side, transfer):
     """Judges a transfer that has the data of a refused one, and keeps it if it was refused."""
     found = side.retries and is_compared(transfer) and side.retries.get(digest(side, transfer.pieces))
     if found and transfer.saw >= found.refusal.offset:
         reason = found.refusal.reason
-        if reason == NO_RESOURCES or digest(side, [transfer.listed]) == found.listed:
+        if is_to_change(side, transfer, found):
             words = f"id={transfer.ident} before={found.ident} reason={reason:02x}"
             side.claim(transfer.offset, SHOULD, "retried", words)
     if transfer.refused is not None:

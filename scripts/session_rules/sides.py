@@ -1,10 +1,11 @@
 """What is kept of each side of a session while both recordings are read."""
 
 from bisect import bisect_right
-from collections import OrderedDict, deque
+from collections import Counter, OrderedDict, deque
 from typing import NamedTuple, Optional
 
 from .facts import END, REFUSE
+from .pairing import TRIED
 
 MUST, SHOULD = "must", "should"
 
@@ -15,7 +16,7 @@ RANGES = 1 << 16
 # sent again.
 SLACK = 5 * 10**9
 
-# How many SESS_TERM of a side are kept, and how many out-of-order IDs.
+# How many earlier transfers are looked at when a transfer is refused, and how many silences are kept.
 KEPT = 1 << 10
 
 
@@ -66,53 +67,81 @@ class Came(NamedTuple):
 
 
 class Segment(NamedTuple):
-    """A segment that waits for its answer: its offset, its end and flags, and the length of its
-    transfer up to it. `came` is when its last byte was captured, or None."""
+    """A segment that waits for its answer: its offset, its end, its flags and the length of its data,
+    and the length of its transfer up to it. `came` is when its last byte was captured, or None."""
 
     offset: int
     flags: int
+    length: int
     total: int
     came: Optional[int]
     end: int
+
+
+class Claim(NamedTuple):
+    """A line that holds under a condition.
+
+    `if_known`: nothing of the other recording is missing that this side could have seen when it sent
+    the message at the offset. `rejects`: this side sent no more MSG_REJECT of XFER_SEGMENT than these.
+    `unless_asked`: the other side sent no SESS_TERM without REPLY, which may have come before.
+    """
+
+    line: Line
+    if_known: bool = False
+    rejects: Optional[int] = None
+    unless_asked: bool = False
 
 
 class Transfer:
     """A transfer that is open, or has segments without an answer.
 
     pending    its segments that have no answer; `last` is the last one that has
+    free       how many of these no XFER_ACK may answer so far, by their flags
     total      the length of its data so far; `count` is how many segments it has
     items      its extension items
     saw        up to where its sender had seen the other side when it began
-    is_odd     whether it has segments that are out of order; `extra` counts them
+    again      how many segments it had when its START came again, or None
+    is_early   whether it began before the SESS_INIT of its sender
+    extra      how many segments with its ID came before this SESS_INIT, or after it was left
     is_judged  whether its answers can be told from those of others with its ID
-    is_late    whether it began when its sender knew that the session was ending
+    is_late    whether it began after a SESS_TERM of its sender, or one that this is shown to have read;
+               `is_warned` is the latter
     strange    answers that wait to be compared, since one of them is not the one that is due
     answered   how many XFER_ACK it has
+    is_counted whether its segments without an answer count in those of its side
     refused    the first XFER_REFUSE of it; `refused_came` is when that was captured
-    left       where another transfer begins, if this one was left without END
+    left       where another transfer begins, if this one was left without END; `follower` is that one
+    is_mixed   whether it began inside another one that was not refused, or was left for another one
+               before it was refused
     goes_on    its length when its sender began a segment after it had seen the refusal
-    overtaken  the first XFER_REFUSE of a later transfer that came while segments had no answer
+    overtaken  the first XFER_REFUSE of a later transfer that came while segments had no answer, and
+               how many segments of earlier transfers had none
+    claims     the lines of the other side about it, or None
     """
 
     __slots__ = (
-        "ident", "offset", "pending", "total", "count", "items", "saw", "is_open", "is_odd", "extra",
-        "is_judged", "is_late", "strange", "answered", "refused", "left", "goes_on", "overtaken", "pieces", "listed",
-        "refused_came", "last",
+        "ident", "offset", "pending", "total", "count", "items", "saw", "is_open", "again", "is_early", "extra",
+        "is_judged", "is_late", "is_warned", "strange", "answered", "is_counted", "refused", "refused_came", "left",
+        "follower", "is_mixed", "goes_on", "overtaken", "claims", "pieces", "listed", "last", "free",
     )
 
     def __init__(self, message, saw):
         self.ident, self.offset, self.items = message.ident, message.offset, message.items
         self.pending, self.total, self.count = deque(), 0, 0
-        self.saw, self.is_open, self.is_odd, self.extra = saw, True, False, 0
-        self.is_judged, self.is_late = True, False
-        self.strange, self.answered = [], 0
-        self.refused = self.refused_came = self.left = self.goes_on = self.overtaken = None
-        self.last = None
+        self.saw, self.is_open, self.again, self.is_early, self.extra = saw, True, None, False, 0
+        self.is_judged, self.is_late, self.is_warned = True, False, False
+        self.strange, self.answered, self.is_counted = [], 0, True
+        self.refused = self.refused_came = self.left = self.follower = self.goes_on = self.overtaken = None
+        self.is_mixed, self.last, self.claims, self.free = False, None, None, Counter()
         self.pieces, self.listed = [], (message.offset + 10, message.end - message.length - 8)
 
     def unanswered(self):
         """Returns how many segments have no answer."""
         return len(self.pending) - len(self.strange)
+
+    def is_interleaved(self):
+        """Returns whether its sender mixed it with another transfer, as far as is known so far."""
+        return self.is_mixed or self.left is not None and self.refused is None
 
 
 class Side:
@@ -122,23 +151,28 @@ class Side:
                it to have read. `answered` is the same by XFER_ACK and XFER_REFUSE alone
     sent       its transfers that are open, or have segments without an answer, by their IDs, in
                the order of their beginnings
-    unanswered how many segments have no answer
+    unanswered how many segments have no answer, except those that were passed over
     opened     its open transfer, or None
     over       the IDs of its other transfers, and `refused` those among them that were refused
-    strays     the IDs of its segments that are out of order and part of no transfer
+    strays     the IDs of its segments that are out of order and part of no transfer, and `taken`
+               those among them that were acknowledged
     waiting    its answers to transfers that the other side has not begun so far, by ID
-    terms      its SESS_TERM
-    inits      its first two SESS_INIT; `first` is its first message, `first_segment` where its first
-               segment is, and `first_use` its first segment, XFER_ACK or XFER_REFUSE
+    terms      its SESS_TERM by their flags and reasons, the first one of each; `asked` is the first
+               one without REPLY
+    inits      its first two SESS_INIT; `first` is its first message, `first_start` its first START,
+               `first_segment` where the first transfer begins, `first_keepalive` its first
+               KEEPALIVE, and `first_use` its first segment, XFER_ACK or XFER_REFUSE
     types      the type bytes of its messages, each with its first offset
-    rejects    the type bytes that it rejected, each with its first offset
+    rejects    the type bytes that it rejected, each with its first offset, and `of_segments` how
+               many MSG_REJECT are of XFER_SEGMENT
     unknown    the type bytes of its answers to nothing, each with its first offset
     accepted   by ID, the other side's transfers of a wrong length that it acknowledged to their END
     retries    its transfers that were refused, by the digest of their data
     differing  by offset, the words of its transfers of a wrong length
+    choices    how many segments may be looked at in choices of those that it rejected
     captured   what a capture shows of the connection, or None
-    lines      the lines of this side, and `doubts` those that hold if the other recording has all
-               that this side could have seen. `ack_lengths` has those of this rule by offset
+    lines      the lines of this side from `check`, and `claims` those of both sides. `of_answers`
+               has the lines of `check` that the other recording decides, by offset
     """
 
     def __init__(self, name, listing, is_closed):
@@ -148,12 +182,12 @@ class Side:
         self.unfinished = None
         self.seen = self.answered = -1
         self.sent, self.unanswered, self.opened = OrderedDict(), 0, None
-        self.over, self.refused, self.strays = Ranges(), Ranges(), {}
-        self.waiting, self.terms, self.types, self.rejects = {}, [], {}, {}
-        self.accepted, self.retries, self.differing = {}, {}, {}
-        self.inits, self.first, self.first_segment, self.first_use = [], None, None, None
-        self.refused_ending, self.sent_keepalive, self.file = None, False, None
-        self.lines, self.doubts, self.ack_lengths, self.unknown = [], [], {}, {}
+        self.over, self.refused, self.strays, self.taken = Ranges(), Ranges(), Ranges(), Ranges()
+        self.waiting, self.terms, self.asked, self.types, self.rejects, self.of_segments = {}, {}, None, {}, {}, 0
+        self.accepted, self.retries, self.differing, self.choices = {}, {}, {}, TRIED
+        self.inits, self.first, self.first_start, self.first_segment, self.first_use = [], None, None, None, None
+        self.refused_ending, self.first_keepalive, self.file = None, None, None
+        self.lines, self.claims, self.of_answers, self.unknown = [], [], {}, {}
         self.next, self.waited = next(self.messages, None), 0
 
     def advance(self):
@@ -169,10 +203,25 @@ class Side:
         if self.clock is not None:
             self.clock.times.close()
 
-    def claim(self, offset, level, rule, words="", if_known=False):
-        """Keeps a line. `if_known`: it holds only if nothing of the other side is missing that this
-        side could have seen when it sent the message at the offset."""
-        (self.doubts if if_known else self.lines).append(Line(offset, level, rule, words))
+    def claim(self, offset, level, rule, words="", about=None, **conditions):
+        """Keeps a line, with the conditions of Claim. One that is about a transfer of the other side
+        waits until it is known whether that was interleaved."""
+        claim = Claim(Line(offset, level, rule, words), **conditions)
+        if about is None:
+            self.claims.append(claim)
+        else:
+            about.claims = about.claims or []
+            about.claims.append(claim)
+
+    def holds(self, claim):
+        """Returns whether a line holds, once both recordings were read."""
+        is_known = not claim.if_known or self.other.is_known(claim.line.offset)
+        is_excused = claim.unless_asked and self.other.asked is not None
+        return is_known and not is_excused and (claim.rejects is None or self.of_segments <= claim.rejects)
+
+    def first_term(self):
+        """Returns its first SESS_TERM, or None."""
+        return next(iter(self.terms.values()), None)
 
     def has_seen(self, message):
         """Returns whether this side is shown to have read a message of the other one."""
@@ -189,6 +238,26 @@ class Side:
         answer after its SESS_TERM, so only the end of the connection shows it."""
         return self.is_closed and self.is_whole()
 
+    def closed_first(self):
+        """Returns whether this side closed the connection before the other one did, or None if that
+        is not known. In a capture, its FIN shows whether that of the other side had come."""
+        if not self.is_closed:
+            return False
+        if self.captured is None:
+            return None if self.other.is_closed else True
+        taken = self.captured.taken
+        return None if taken is None else taken <= self.other.listing.end
+
+    def level_of_missing(self):
+        """Returns the level of a line for a message that the recording lacks at its end. It is a must
+        only if the other side had not closed the connection before."""
+        return MUST if self.closed_first() else SHOULD
+
+    def has_accepted(self):
+        """Returns whether a capture shows that this side accepted the connection. Then it shows where
+        the other side began, too."""
+        return self.captured is not None and self.captured.seen is not None
+
     def is_known(self, offset):
         """Returns whether the recording has all that the other side could have seen when it sent
         the message at an offset of its own recording."""
@@ -198,15 +267,16 @@ class Side:
 def can_take(sender, answer):
     """Returns whether an XFER_ACK or an XFER_REFUSE can be taken: whether what it answers was.
 
-    For an XFER_ACK, a segment has no answer, and the transfer has the acknowledged length so far,
-    and its END if the XFER_ACK has END; or the transfer gets no more.
+    For an XFER_ACK, a segment has no answer and the flags of the XFER_ACK, and the transfer has the
+    acknowledged length so far; or the transfer gets no more.
     """
     transfer = sender.sent.get(answer.ident)
     if transfer is None:
         return answer.ident in sender.strays or answer.kind == REFUSE and answer.ident in sender.over
     if answer.kind == REFUSE or not transfer.is_judged:
         return True
-    if transfer.is_open and (answer.length > transfer.total or answer.flags & END):
+    is_refused, is_known = transfer.refused is not None, transfer.extra > 0 or transfer.free[answer.flags] > 0
+    if transfer.is_open and (answer.length > transfer.total or answer.flags & END or not (is_refused or is_known)):
         return False
     is_compared = bool(transfer.strange) and not transfer.is_open
-    return is_compared or transfer.refused is not None or transfer.extra > 0 or transfer.unanswered() > 0
+    return is_compared or is_refused or transfer.extra > 0 or transfer.unanswered() > 0

@@ -1,7 +1,11 @@
-"""The rules that need to know when bytes were captured (RFC 9174 section 5.1.1)."""
+"""The rules that need to know when bytes were captured (RFC 9174 sections 5.1.1 and 5.2.3)."""
 
 from .facts import TERM, Listing, Times
 from .sides import KEPT, MUST, SHOULD, SLACK, Came
+
+# How much before the last byte of its segment an answer may be captured, in nanoseconds: packets of
+# the two directions may be captured in the wrong order.
+EXCHANGED = 10**7
 
 
 class Clock:
@@ -57,13 +61,41 @@ def heard(side, message, came):
 
 
 def silent(side, message, since, until):
-    """Judges a silence that lasted from one time to another."""
+    """Judges a silence that lasted from one time to another.
+
+    By times it is no must: a message may wait in TCP, for a window that opens or to be sent again.
+    """
     interval = side.clock.interval
     if until - since > interval + SLACK:
+        level = MUST if is_idle(side, message.offset, since) else SHOULD
         words = f"seconds={spelled(until - since)} interval={interval // 10**9}"
-        side.claim(message.offset, MUST, "keepalive-late", words)
+        side.claim(message.offset, level, "keepalive-late", words)
     if until - since > 2 * interval + SLACK and len(side.clock.silences) < KEPT:
         side.clock.silences.append((since, until))
+
+
+def is_idle(side, offset, since):
+    """Returns whether a capture shows that a side had nothing to send when a KEEPALIVE was late: it
+    had sent no byte from the offset on since a time, although TCP could have carried it."""
+    shown = side.captured and side.captured.shown
+    idle_at = shown and shown.idle(offset)
+    if idle_at is None or shown.had is None:
+        return False
+    return idle_at > max(since, shown.had) + side.clock.interval + SLACK
+
+
+def early(side, transfer, message, segment, came):
+    """Judges that an XFER_ACK comes after all of its segment has come: by what a capture shows, or
+    by times. By times it is no must: the capture may lack the packet by which the segment came."""
+    if side.captured is not None:
+        seen = side.captured.shown.arrived.at(message.end - 1)
+        if seen is not None and seen < segment.end:
+            words = f"id={transfer.ident} seen={seen} peer-at={segment.offset}"
+            side.claim(message.offset, MUST, "ack-early", words, about=transfer)
+    elif came and segment.came and came.first + EXCHANGED < segment.came:
+        before = spelled(segment.came - came.first)
+        words = f"id={transfer.ident} peer-at={segment.offset} early={before}"
+        side.claim(message.offset, SHOULD, "ack-early", words, about=transfer)
 
 
 def idle(side, tcpclkit):

@@ -7,13 +7,14 @@ from .pages import Page, Recorded
 ENDINGS = {"fin": "FIN", "rst": "RST", "peer-rst": "RST of the other side", "open": "open"}
 
 
-def write_pages(tcpclkit, talks):
+def write_pages(tcpclkit, talks, notes, own):
     """Writes the page of each session beside its recordings, without what comes after a gap."""
     for number, talk in sorted(talks.items()):
         closed = "".join(name for name in "ab" if talk.is_lost(name))
         with open(talk.shared.files.path(f"{number:04}.html"), "wb") as output:
             sides = [recorded(talk, name) for name in "ab"]
-            Page(output, tcpclkit).write(sides, closed, lambda: checking.verdict(tcpclkit, talk))
+            verdict = checking.verdict(tcpclkit, talk, notes, own)
+            Page(output, tcpclkit).write(sides, closed, lambda: verdict)
 
 
 def recorded(talk, name):

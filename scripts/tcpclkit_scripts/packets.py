@@ -20,7 +20,8 @@ PATIENCE = 1
 # A segment that an ICMP error quotes is left out, and so is one whose header is cut. The user's
 # settings do not matter.
 FIELDS = ["tcp.stream", "tcp.srcport", "tcp.dstport", "ip.src", "ip.dst", "ipv6.src", "ipv6.dst"]
-FIELDS += ["tcp.flags", "tcp.seq", "tcp.ack", "tcp.len", "frame.time_epoch", "tcp.payload"]
+FIELDS += ["tcp.flags", "tcp.seq", "tcp.ack", "tcp.window_size_value", "tcp.len"]
+FIELDS += ["frame.time_epoch", "tcp.payload"]
 SETTINGS = ["tcp.desegment_tcp_streams", "tcp.relative_sequence_numbers", "tcp.check_checksum"]
 SETTINGS += ["tcp.analyze_sequence_numbers"]
 WORDS = ["-n", "-l", "-Y", "tcp.len && !icmp && !icmpv6", "-d", "tcp.port==0-65535,data"]
@@ -31,13 +32,15 @@ NO_SETTINGS = {"WIRESHARK_CONFIG_DIR": "/nonexistent"}
 
 
 class Packet(NamedTuple):
-    """A TCP segment. An end is an address and a port. The time counts nanoseconds."""
+    """A TCP segment. An end is an address and a port. The window is not scaled. The time counts
+    nanoseconds."""
 
     source: tuple
     target: tuple
     flags: int
     sequence: int
     acknowledged: int
+    window: int
     length: int
     time: int
     data: bytes
@@ -63,7 +66,7 @@ def spelled_end(end):
 
 def packet_of(row):
     """Returns the packet of a row of fields."""
-    _, port, other_port, *addresses, flags, sequence, acknowledged, length, time, data = row
+    _, port, other_port, *addresses, flags, sequence, acknowledged, window, length, time, data = row
     address, other_address, address_6, other_address_6 = addresses
     return Packet(
         ((address or address_6).decode(), int(port)),
@@ -71,6 +74,7 @@ def packet_of(row):
         int(flags, 16),
         int(sequence),
         int(acknowledged or 0),
+        int(window or 0),
         int(length),
         nanoseconds(time),
         binascii.unhexlify(data.replace(b":", b"")),

@@ -86,7 +86,8 @@ class Reader:
             self.taker.sess_term(*TERM_FIELDS.unpack_from(data, at))
         elif kind == SESS_INIT:
             begin = at + 21
-            self.taker.sess_init(data[begin : begin + messages.number(U16, at + 19)])
+            node = data[begin : begin + messages.number(U16, at + 19)]
+            self.taker.sess_init(self.offset + end, node)
         return end
 
     def xfer_segment(self, messages, at, time):

@@ -156,9 +156,11 @@ class Recorder:
         named = self.talk.refusals[reason]
         self.talk.answer(self.side, Answer(ident, offset, reason=named, part=self.part, time=time))
 
-    def sess_init(self, node):
-        """Takes a SESS_INIT."""
-        self.node = node if self.node is None else self.node
+    def sess_init(self, end, node):
+        """Takes a SESS_INIT, which ends at an offset."""
+        if self.node is None:
+            self.node = node
+            self.talk.opened(self.side, end + self.shift)
 
     def sess_term(self, _, reason):
         """Takes a SESS_TERM."""

@@ -104,6 +104,10 @@ class Talk:
 
     # ---- what recorders read
 
+    def opened(self, name, end):
+        """Takes where the first SESS_INIT of a side ends."""
+        self.sides[name].shown.opened = end
+
     def begin(self, name, transfer):
         """Takes a transfer that a side began."""
         self.pairings[name].begin(transfer)
@@ -172,13 +176,20 @@ class Talk:
         return any(self.is_open(name) for name in "ab")
 
     def is_unsent(self, name):
-        """Returns whether a side has sent nothing yet, as far as the other one shows.
+        """Returns whether a side has sent nothing so far, as far as both show.
 
-        The number of its first byte is known then, and the other side acknowledged none. Nor did it
-        send more than a contact header: messages come after that of the other side (section 4.3).
+        The number of its first byte is known then, and the other side acknowledged none. Either its
+        FIN or RST has that number, or the other one sent no more than a contact header: messages
+        come after that of the other side (section 4.3).
         """
         side, other = self.sides[name], self.sides[OTHER[name]]
-        return side.first is not None and side.sent == 0 and other.count <= CONTACT_LENGTH
+        has_begun = 0 not in (side.fin, side.rst) and other.count > CONTACT_LENGTH
+        return side.first is not None and side.sent == 0 and not has_begun
+
+    def is_left_early(self):
+        """Returns whether the connection ended before a side had sent any byte."""
+        is_empty = any(side.count == 0 and not side.lacks_end() for side in self.sides.values())
+        return is_empty and not self.is_any_open()
 
     def path_of(self, name):
         """Returns what names a recording of a side by its number."""

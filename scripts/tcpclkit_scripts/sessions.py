@@ -98,11 +98,15 @@ class Sessions:
             self.drop(number, connection)
 
     def report(self):
-        """Reports which sessions are open, whether there are any, and what may be one."""
-        notes = self.shared.notes
-        is_open = [number for number, talk in sorted(self.talks.items()) if talk.is_any_open()]
+        """Reports which sessions are open or ended early, whether there are any, and what may be one."""
+        notes, talks = self.shared.notes, sorted(self.talks.items())
+        is_open = [number for number, talk in talks if talk.is_any_open()]
         if is_open:
             notes.report(f"open at the end of the capture: {spelled_numbers(is_open)}")
+        is_left = [number for number, talk in talks if talk.is_left_early()]
+        if is_left:
+            text = f"connections that ended before any byte of a side: {len(is_left)}"
+            notes.report(f"{text}; {spelled_numbers(is_left)}")
         if not self.talks:
             notes.report("no TCPCL connection", FAULT)
         if self.late:

@@ -3,6 +3,8 @@
 import heapq
 from typing import NamedTuple, Optional
 
+from .shown import Shown
+
 # Flags of TCP (RFC 9293 section 3.1), how many sequence numbers there are, and the largest window
 # (RFC 7323 section 2.3).
 FIN, SYN, RST, ACK = 0x01, 0x02, 0x04, 0x10
@@ -28,11 +30,6 @@ class Piece(NamedTuple):
     gap: Optional[int] = None
 
 
-def least(before, count):
-    """Returns the lesser of two numbers. There may be none before."""
-    return count if before is None else min(before, count)
-
-
 class Memory:
     """How much memory packets may still take that come before their turn."""
 
@@ -47,8 +44,7 @@ class Side:
     known. `count` is the offset after the bytes that have come, and `head` has the first four.
     `sent` is how many bytes were sent, as far as the capture shows. `fin` and `rst` are the offsets
     of its FIN and of its RST. An RST `aborts` if it has an acknowledgement: one that answers a
-    packet of no known connection has none. `seen_first` and `seen_last` are how many bytes of
-    the other side had come when this one sent its first byte, and its FIN.
+    packet of no known connection has none. `shown` has what its packets show of the other side.
 
     `held` has by offset the data that comes after a gap, and its time. `ahead` is a heap of these
     offsets, and `taken` is the memory for all of it. `pieces` has what has come and is not handed
@@ -58,8 +54,8 @@ class Side:
     def __init__(self, end, memory):
         self.end, self.first, self.count, self.sent, self.head = end, None, 0, 0, b""
         self.has_syn = self.connects = False
-        self.fin = self.rst = self.seen_first = self.seen_last = None
-        self.aborts = False
+        self.fin = self.rst = None
+        self.aborts, self.shown = False, Shown()
         self.memory, self.taken, self.held, self.ahead = memory, 0, {}, []
         self.pieces = []
 
@@ -76,11 +72,16 @@ class Side:
             self.first = packet.sequence + 1
 
     def acknowledge(self, number, is_opening):
-        """Takes an acknowledgement by the other side. The last number may be that of a FIN."""
+        """Takes an acknowledgement by the other side. The last number may be that of a FIN. Returns
+        how many bytes it covers, or None if the first number is not known."""
         if self.first is None and is_opening:
             self.first = number
-        if self.first is not None and self.offset(number) <= self.count + WINDOW:
-            self.sent = max(self.sent, self.offset(number) - 1)
+        if self.first is None:
+            return None
+        count = self.offset(number)
+        if self.sent < count - 1 <= self.count + WINDOW:
+            self.sent = count - 1
+        return count
 
     def reset(self, packet):
         """Takes an RST. It counts if it can be the next segment, and no data follows."""
@@ -88,15 +89,12 @@ class Side:
             self.rst = self.offset(packet.sequence)
             self.aborts = bool(packet.flags & ACK)
 
-    def see(self, packet, count):
-        """Notes how many bytes of the other side had come when this one sent a packet. If the packet
-        came again, the least number counts."""
-        if self.first is None or packet.flags & SYN:
-            return
-        if packet.length > 0 and self.offset(packet.sequence) == 0:
-            self.seen_first = least(self.seen_first, count)
-        if packet.flags & FIN:
-            self.seen_last = least(self.seen_last, count)
+    def show(self, other, packet, count):
+        """Takes what a packet shows that acknowledges that many bytes of the other side."""
+        if self.first is not None and not packet.flags & SYN:
+            begin = self.offset(packet.sequence)
+            end = begin + packet.length + (packet.flags & FIN)
+            self.shown.take(other.shown, packet, begin, end, count)
 
     def take(self, packet):
         """Takes the data of a packet. Returns whether there are new pieces by it."""
@@ -214,9 +212,9 @@ class Connection:
         if packet.flags & SYN:
             sender.open(packet)
         if packet.flags & ACK:
-            receiver.acknowledge(packet.acknowledged, sender.has_syn)
-            if receiver.first is not None:
-                sender.see(packet, receiver.offset(packet.acknowledged))
+            count = receiver.acknowledge(packet.acknowledged, sender.has_syn)
+            if count is not None:
+                sender.show(receiver, packet, count)
         return sender.take(packet) if packet.length > 0 or packet.flags & FIN else False
 
     def began_before(self):

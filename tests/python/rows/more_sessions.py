@@ -99,13 +99,11 @@ BROKEN = {
     "an answer twice in the middle": pair([*THREE, TERM], [THREE_ACKED[0], THREE_ACKED[1], *THREE_ACKED[1:], REPLIED],
                                           "b {b4} must ack-beyond id=0 segments=3"),
     "an answer twice, and then the end": pair([*THREE, TERM], [THREE_ACKED[0], THREE_ACKED[0]],
-                                              "b {b3} should answer-order id=0 fault=start-repeats",
                                               "b {b3} must ack-beyond id=0 segments=3"),
-    "the first answer of a transfer is missing": pair([*THREE, TERM], [*THREE_ACKED[1:], REPLIED],
-                                                      "b {b2} should answer-order id=0 fault=not-the-last",
-                                                      "b {b2} must ack-missing id=0 peer-at={a2}"),
-    "the second answer of a transfer is missing": pair([*THREE, TERM], [THREE_ACKED[0], THREE_ACKED[2], REPLIED],
-                                                       "b {b3} must ack-missing id=0 peer-at={a3}"),
+    "the first answer of a transfer is missing": pair(
+        THREE, THREE_ACKED[1:], "b {b-end} must ack-missing id=0 peer-at={a2}", options="--closed b"),
+    "the second answer of a transfer is missing": pair(
+        THREE, [THREE_ACKED[0], THREE_ACKED[2]], "b {b-end} must ack-missing id=0 peer-at={a3}", options="--closed b"),
     "an answer that may come after a SESS_TERM": pair(
         [whole(), whole(1), TERM], [acked(1), REPLIED]),
     "a refusal that may come after a SESS_TERM": pair(
@@ -116,8 +114,9 @@ BROKEN = {
     "a KEEPALIVE is rejected that was not sent": pair(
         [TERM], [REPLIED, REJECTED(2, 4)], "b {b3} must reject-header header=04", options="--closed a"),
     "an answer is missing, and the last segment is empty": pair(
-        [first(0, DATA[:10]), *(make.xfer_segment(*it) for it in ((0, 0, b""), (0, 0, DATA[10:]), (END, 0, b""))), TERM],
-        [acked(0, START, 10), acked(0, 0, SIZE), acked(0, END, SIZE), REPLIED], "b {b3} must ack-missing id=0 peer-at={a3}"),
+        [first(0, DATA[:10]), *(make.xfer_segment(*it) for it in ((0, 0, b""), (0, 0, DATA[10:]), (END, 0, b"")))],
+        [acked(0, START, 10), acked(0, 0, SIZE), acked(0, END, SIZE)], "b {b-end} must ack-missing id=0 peer-at={a3}",
+        options="--closed b"),
     "an answer is missing before a SESS_TERM": pair([whole(), TERM], [REPLIED],
                                                     "b {b-end} should ack-missing id=0 peer-at={a2}", options="--closed b"),
     "reserved flags that are not repeated": pair([RESERVED, TERM], [acked(), REPLIED], FLAGS,
@@ -139,8 +138,7 @@ BROKEN = {
         [whole(), whole(1), TERM], [refused(1), refused(0), REPLIED], "b {b2} must refuse-order id=1 unanswered=0"),
     "an acknowledgement of what follows a refusal": pair(
         [first(), acked(), last(), TERM], [refused(), whole(), ACKED[1], REPLIED],
-        "a {a4} must refused-continued id=0 peer-at={b2}", "b {b4} should answer-order id=0 fault=after-refusal",
-        "b {b4} must refused-acknowledged id=0"),
+        "a {a4} must refused-continued id=0 peer-at={b2}", "b {b4} must refused-acknowledged id=0"),
     "a refused transfer goes on, by times": pair(
         [first(), last()], [refused(), refused()], "a {a3} should refused-continued id=0 peer-at={b2}",
         times=([0, 1, 2, 8.000001], [0, 1, 3, 9])),
@@ -150,8 +148,7 @@ BROKEN = {
     "refused when it was left": pair([first(), whole(1)], [ACKED[0], acked(1), refused()],
                                      "a {a3} must interleaved id=1 open=0"),
     "left, and an answer is missing": pair(
-        [first(), whole(1), TERM], [acked(1), REPLIED], "a {a3} should interleaved id=1 open=0",
-        "b {b-end} must ack-missing id=0 peer-at={a2}", options="--closed b"),
+        [first(), whole(1), TERM], [acked(1), REPLIED], "a {a3} should interleaved id=1 open=0", options="--closed b"),
     "two transfers take turns": pair(
         [first(), first(1), last(), last(1), TERM],
         [ACKED[0], acked(1, START, HALF), REJECTED(3, 1), acked(1, END, SIZE), REPLIED],
@@ -161,19 +158,18 @@ BROKEN = {
         [make.sess_term(0x80, 0)], [REPLIED], "a {a2} must term-flags flags=80",
         "b {b2} should reply-differs flags=01 reason=00 peer-flags=80 peer-reason=00"),
     "no reply to a SESS_TERM": pair([TERM], [], "b {b-end} should term-unanswered peer-at={a2}", options="--closed b"),
-    "a late transfer is acknowledged": pair([TERM, whole()], [acked(), REPLIED], LATE, "b {b2} must ending id=0 type=02"),
+    "a late transfer is acknowledged": pair([TERM, whole()], [acked(), REPLIED], LATE, "b {b2} should ending id=0 type=02"),
     "a late transfer is refused with another reason": pair(
-        [TERM, whole()], [refused(), REPLIED], LATE, "b {b2} must ending id=0 type=03 reason=02"),
+        [TERM, whole()], [refused(), REPLIED], LATE, "b {b2} should ending id=0 type=03 reason=02"),
     "a late transfer is refused": pair([TERM, whole()], [refused(0, 6), REPLIED], LATE),
     "a handshake of TLS that was not agreed": bare([HEADER, HANDSHAKE], [CAN_TLS, B], "a 6 must tls type=16", status=3),
     "a handshake of TLS": bare([CAN_TLS, HANDSHAKE], [CAN_TLS, HANDSHAKE], status=3),
-    "another version, and contact-failure": bare([b"dtn!\x05\x00"], [HEADER, make.sess_term(0, 4)],
-                                                 "b 6 must version type=05 version=5", status=3),
+    "another version, and contact-failure": bare([b"dtn!\x05\x00"], [HEADER, make.sess_term(0, 4)], status=3),
     "a lower version, and contact-failure": bare([b"dtn!\x03\x00"], [HEADER, make.sess_term(0, 4)], status=3),
     "a lower version, and a SESS_INIT": bare([b"dtn!\x03\x00"], [HEADER, B], "b 6 must version type=07 version=3", status=3),
     "another version, and busy": bare([b"dtn!\x05\x00"], [HEADER, make.sess_term(0, 3)], status=3),
     "no contact header, and contact-failure": bare([b"HTTP/1.1 "], [HEADER, make.sess_term(0, 4)],
-                                                   "b 6 must after-bad-contact type=05", status=3),
+                                                   "b 6 should after-bad-contact type=05", status=3),
     "no contact header, and busy": bare([b"HTTP/1.1 "], [HEADER, make.sess_term(0, 3)], status=3),
     "no contact header, and a session": bare([b"HTTP/1.1 "], [HEADER, B, whole()], status=3),
     "zeros and no contact header": bare([bytes(9)], [HEADER, B], status=3),
@@ -183,7 +179,7 @@ BROKEN = {
         [whole(), acked(), whole(1, DATA, make.item(0, 0x8000, b"")), TERM], [refused(), whole(), acked(1), REPLIED],
         "a {a4} should retried id=1 before=0 reason=02"),
     "session-terminating in a session that goes on": pair(
-        [whole(), whole(1), TERM], [refused(0, 6), acked(1), REPLIED], "b {b2} should refuse-reason id=0 reason=06"),
+        [whole(), whole(1), REPLIED], [refused(0, 6), acked(1), TERM], "b {b2} should refuse-reason id=0 reason=06"),
     "an answer before the SESS_INIT": bare(
         [HEADER, A, whole()], [HEADER, acked(), B], "a {a2} must no-session", "b {b1} should before-session type=02"),
     "a critical item of a transfer": pair(
@@ -202,8 +198,7 @@ BROKEN = {
         [whole(), whole(1), whole(), TERM], [acked(1), REPLIED], "a {a4} must transfer-id id=0"),
     "a START that comes twice": pair(
         [first(), whole(), TERM], [ACKED[0], acked(), REPLIED], "a {a3} must order fault=start-repeats-the-open-transfer",
-        "a {a3} must transfer-id id=0", "b {b3} should answer-order id=0 fault=start-repeats",
-        "b {b3} should taken-out-of-order id=0"),
+        "a {a3} must transfer-id id=0", "b {b3} should taken-out-of-order id=0"),
 }
 
 MORE = {**KEPT, **NOT_WHOLE, **BROKEN}

@@ -10,7 +10,7 @@ from typing import NamedTuple
 
 from capture import ACK, CLOSING, FIN, PSH, RESET, RST, ends, frames, pcap
 
-from .common import TOP, empty_room, run, write
+from .common import PROGRAM, TOP, empty_room, read, run, write
 
 sys.path[:0] = [f"{TOP}/tests/python"]
 
@@ -27,6 +27,19 @@ B_THEN_DATA = [*B_ALONE, ("a", PSH | ACK, whole() + REPLIED, 1), ("a", FIN | ACK
 ANSWER_OF_NONE = [("b", RST, b"", 1)]
 B_TWICE = [*B_ALONE, ("b", RST | ACK, b"", 1)]
 BOTH_RESET = [*RESET, ("a", RST | ACK, b"", 1)]
+
+
+# The program, without the option --own: its value is noted
+NOTING = """#!/usr/bin/env python3
+import os, sys
+words = sys.argv[1:]
+if "--own" in words:
+    at = words.index("--own")
+    with open("{at}/nodes", "a") as it:
+        it.write(words[at + 1] + "\\n")
+    del words[at : at + 2]
+os.execv("{program}", ["tcpclkit", *words])
+"""
 
 
 class Row(NamedTuple):
@@ -59,7 +72,7 @@ RULES = {
         [*OPENED, ("a", whole()), ("b", TERM), ("a", REPLIED)],
         ["b {b-end} should unanswered-at-close id=0 peer-at={a2}"],
     ),
-    "reset": Row([*OPENED, *SENT, *ENDED], ["b {b-end} must reset"], RESET),
+    "reset": Row([*OPENED, *SENT, *ENDED], ["b {b-end} should reset"], RESET),
     "reset: no SESS_TERM": Row([*OPENED, *SENT], ["b {b-end} should reset"], RESET),
 }
 
@@ -71,9 +84,9 @@ SHOWN = {
     "a transfer that is left open": Row(
         [*OPENED, ("a", first()), ("b", ACKED[0])], ["a {a2} should unfinished transfer=0 length=%d" % (len(DATA) // 2)]
     ),
-    "times": Row(
+    "acknowledgements of TCP": Row(
         [*OPENED, ("b", acked()), ("a", ALIVE), ("a", ALIVE), ("a", whole()), *ENDED],
-        ["b {b2} must ack-early id=0 peer-at={a4} early=0.030000"],
+        ["b {b2} must ack-early id=0 seen=%d peer-at={a4}" % len(HEADER + A)],
     ),
     "a limit of 0": Row(
         [("a", HEADER), ("b", HEADER), ("a", A), ("b", init(b"ipn:2.0", segment=0)), *SENT, *ENDED],
@@ -132,5 +145,22 @@ def several():
         yield "capture: no rules", (0, []), (status, [it for it in shown.splitlines() if " must " in it])
 
 
-TOOLS = {rows: ["tshark"], several: ["tshark"]}
-PARTS = [rows, several]
+def own():
+    """`check` gets the node of each side's first SESS_INIT. A side that names none is named."""
+    nameless = [("a", HEADER), ("b", HEADER), ("a", A), ("b", init(b"dtn:none")), *ENDED]
+    cases = {"of both": ([*OPENED, *SENT, *ENDED], ["ipn:1.0", "ipn:2.0"], ""), "of a": (nameless, ["ipn:1.0"], "b")}
+    told = "tcpclkit-capture: stream 0 b: the first SESS_INIT names no node, so bundles of all nodes are judged\n"
+    with empty_room() as at:
+        for name, (turns, nodes, who) in cases.items():
+            write(f"{at}/noting", NOTING.format(at=at, program=PROGRAM).encode(), 0o755)
+            write(f"{at}/capture", Row(turns).capture())
+            words = ["--tcpclkit", "noting", "--check", "--own", f"made {name}", "capture"]
+            errors = run(at, "capture", *words)[2]
+            got = read(f"{at}/nodes").decode().split()
+            yield f"capture --check --own: {name}", (nodes, told if who else ""), (sorted(got), errors)
+            os.remove(f"{at}/nodes")
+        yield "capture --own", 2, run(at, "capture", "--own", "made", "capture")[0]
+
+
+TOOLS = {part: ["tshark"] for part in (rows, several, own)}
+PARTS = [rows, several, own]

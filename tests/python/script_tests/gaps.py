@@ -390,6 +390,8 @@ def nothing_sent():
         "and b's FIN": ([*first, Segment(LINK, "b", 0, flags=FIN | ACK, seen=6)], []),
         "and a has 6 bytes of b": ([*first, Segment(LINK, "a", 6, seen=6)], [gap]),
         "and a SESS_INIT": ([*first, more], [nothing]),
+        "and a SESS_INIT and b's FIN": ([*first, more, Segment(LINK, "b", 0, flags=FIN | ACK)], []),
+        "and a SESS_INIT and a later FIN of b": ([*first, more, Segment(LINK, "b", 1, flags=FIN | ACK)], [gap]),
         "without the SYN of both": (first[2:], [nothing]),
     }
     with empty_room() as at:

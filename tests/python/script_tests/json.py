@@ -146,8 +146,8 @@ def each_form():
 
 def each_rule():
     """json.lines has a line of each rule of docs/FORMATS.md, with each of its words."""
-    heads = [f"| Rule | Level | {rfc} |" for rfc in ("RFC 9174", "RFC", "RFC 9171", "RFC 9172")]
-    rules = [it for head in heads for it in rows_of("FORMATS.md", f"{head} Broken if | WORDS |")]
+    heads = ["RFC 9174", "RFC", "RFC 9171 | Binds", "RFC 9172 | Binds"]
+    rules = [it for head in heads for it in rows_of("FORMATS.md", f"| Rule | Level | {head} | Broken if | WORDS |")]
     yield "json: rules of docs/FORMATS.md", {it.name for it in checking.RULES}, {name.strip("`") for name, *_ in rules}
     lines = [line.split(" ") for line, _ in PAIRS if re.match(r"\d+ (must|should) ", line)]
     for name, *_, words in rules:
@@ -184,7 +184,7 @@ def faults():
 def messages_of_failures():
     """A message of the program about a device or a word has its text in the object."""
     shown = [cells[0].strip("`") for cells in rows_of("MANUAL.md", "| Message | When |")]
-    yield "json: 9 messages", 9, len(shown)
+    yield "json: 10 messages", 10, len(shown)
     wanted = [{"error": it.partition(": ")[2]} for it in shown]
     yield "json: messages", (0, wanted, ""), objects(joined(shown))
 

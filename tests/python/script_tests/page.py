@@ -1,12 +1,15 @@
 """Tests of scripts/page, and of the pages of scripts/capture. tests/gate/browser opens pages."""
 
 import base64
+import json
 import os
 import pty
 import re
 import shutil
 import subprocess
 from html.parser import HTMLParser
+
+from model import checking
 
 from .common import PROGRAM, TOP, empty_room, install, read, run, write
 
@@ -205,7 +208,7 @@ def all_rules():
     """Each rule of the documents has its sentence, its sections, advice, and a sentence of each section."""
     rules = Rules(read(FRAME).decode())
     yield "page: rules of one side and of two", (True, True), tuple(sum(sides == it for sides, _ in rules.cells) > 30 for it in ("one", "two"))
-    lacking = [(name, part) for name, cells in rules.cells.items() for part in ("level", "section", "sentence", "advice", "quotes") if not cells.get(part)]
+    lacking = [(name, part) for name, cells in rules.cells.items() for part in ("level", "section", "binds", "sentence", "advice", "quotes") if not cells.get(part)]
     yield "page: each rule has all parts, and `bundle` has the sentences of its fault", [(("one", "bundle"), "quotes")], lacking
     codes = re.findall(r'<td data-quotes="B\d+">(<blockquote>)?', read(FRAME).decode())
     yield "page: each fault of a bundle has its sentences", (17, True), (len(codes), all(codes))
@@ -224,8 +227,20 @@ def all_rules():
     yield "page: each section of a rule of two sides has a sentence", [], wrong
 
 
+def changed_lines():
+    """The page knows each rule whose lines of `check` check-session changes, by docs/SESSIONS.md."""
+    written = read(f"{TOP}/docs/SESSIONS.md").decode()
+    changes = written.partition("Some lines of `check` change:\n")[2].partition("\n- If both")[0]
+    changes += written.partition("The recording itself also gets no ")[2].partition(". Of the rules")[0]
+    named = {it.name for it in checking.RULES}.intersection(re.findall("`([a-z-]+)`", changes))
+    script = read(f"{TOP}/page/script/session.js").decode()
+    lists = re.findall(r"^const OF_(?:BOTH|BEGINNING) = (\[[^]]*\]);$", script, re.MULTILINE)
+    known = {name for it in lists for name in json.loads(it)} | {"peer-segment", "peer-transfer"}
+    yield "page: the lines of `check` that change", (2, known), (len(lists), named)
+
+
 PARTS = [
-    all_rules, one_recording, two_recordings, faults_and_sizes, hostile_names, outputs, on_a_terminal,
+    all_rules, changed_lines, one_recording, two_recordings, faults_and_sizes, hostile_names, outputs, on_a_terminal,
     installed, of_a_capture,
 ]
 TOOLS = {of_a_capture: ["tshark"]}

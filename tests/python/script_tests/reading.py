@@ -49,7 +49,7 @@ class Lines:
         """Takes an XFER_REFUSE."""
         self.lines.append(f"{offset} xfer-refuse reason={reason:02x} id={ident}")
 
-    def sess_init(self, node):
+    def sess_init(self, _, node):
         """Takes a SESS_INIT."""
         self.lines.append(f"sess-init node={spelled(node)}")
 
