@@ -29,6 +29,18 @@ def inside(rng, side):
     return content[:rng.choice(inner)] if inner else content
 
 
+def late(rng, side):
+    """A recording that begins late, at any byte of its first messages, or of all."""
+    beginning = len(spelling(side.sent[:rng.choice([1, 2, 5, len(side.sent)])]))
+    return side.content()[rng.randint(1, max(1, beginning)):]
+
+
+def late_and_cut(rng, side):
+    """A recording that begins late, and ends before the connection does."""
+    content = late(rng, side)
+    return content[:rng.randint(0, len(content))]
+
+
 def headless(rng, side):
     """A recording without its beginning, as it was captured."""
     return spelling(side.sent[rng.randint(1, len(side.sent)):])
@@ -41,8 +53,8 @@ def resumed(rng, side):
     return made + spelling(side.sent[rng.randint(first, len(side.sent)):])
 
 
-CUTS = {"cut at a message": at_boundary, "cut inside a message": inside}
-BEGINNINGS = {"without its beginning": headless, "resumed by resync": resumed}
+CUTS = {"cut at a message": at_boundary, "cut inside a message": inside, "begun late and cut": late_and_cut}
+BEGINNINGS = {"without its beginning": headless, "begun late": late, "resumed by resync": resumed}
 
 
 def cut(rng, talk, how):

@@ -10,7 +10,7 @@ import sys
 import tempfile
 from typing import NamedTuple
 
-from model import checking, texts, wire
+from model import checking, wire
 
 TOP = os.path.dirname(os.path.dirname(os.path.dirname(os.path.dirname(os.path.abspath(__file__)))))
 sys.path.append(f"{TOP}/scripts")
@@ -89,6 +89,9 @@ class Pipes:
 
 SUBPROCESS = facts.subprocess
 
+# Is called with the recordings, times, closed sides and lines of each pair that is judged
+observer = None
+
 
 class Line(NamedTuple):
     """A line of the judge."""
@@ -118,4 +121,7 @@ def judged(recordings, times=None, closed="", by_program=False):
         for path, text in zip(clocks, times or ()):
             write(path, text.encode())
         verdict = judging.judged(PROGRAM, paths, clocks if times else None, closed)
-    return [Line(name, it.offset, it.level, it.rule, it.words) for name, found in verdict.lines for it in found]
+    found = [Line(name, it.offset, it.level, it.rule, it.words) for name, lines in verdict.lines for it in lines]
+    if observer:
+        observer(recordings, times, closed, found)
+    return found

@@ -9,6 +9,7 @@ from typing import NamedTuple
 from model import wire
 
 from .messages import CAN_TLS, CRITICAL, END, LENGTH, REPLY, START, Raw, length_item, segment
+from .receiver import IN_ORDER, OWN
 
 OTHER = {"a": "b", "b": "a"}
 UNKNOWN = wire.Item(CRITICAL, 0x8020, b"")
@@ -17,12 +18,15 @@ UNKNOWN = wire.Item(CRITICAL, 0x8020, b"")
 USUAL = {"is_hasty": False, "aborts": False, "leaves_early": False, "bundles": lambda it: it.bundles or [20, 30],
          "is_strict": False, "ends": 0.005}
 
+# Each segment has its answer in order, since another answer may excuse one that is missing
+ORDERLY = {"order": IN_ORDER, "segment_rejections": 0, "late_acks": 0, "repeats": 0, "begins_late": False, "stops": 0}
+
 # Each XFER_ACK of a transfer has its own sum. Otherwise one that is changed may be a right one of another
 # segment
-EXACT = {"so_far": False, "empty": 0}
+EXACT = {**ORDERLY, "sums": OWN, "empty": 0}
 
 # Side a sends many short transfers, and side b few long ones
-TALKATIVE = {"so_far": False, "in_order": True, "longest": lambda it: 1000 if it.name == "a" else 3,
+TALKATIVE = {**ORDERLY, "sums": OWN, "longest": lambda it: 1000 if it.name == "a" else 3,
              "bundles": lambda it: [10] * 20 if it.name == "a" else [60] * 2}
 
 
@@ -37,7 +41,10 @@ class Kind(NamedTuple):
     """A kind of mutation. `others` has each other `must` that is right too: the side (`same` or `peer`),
     the rule, and the section and sentence of RFC 9174 by which it is.
 
-    `bugs` and `traits` are those of the session that is changed.
+    `level` is `should` where recordings and times do not prove that a SHALL was broken: after its SESS_TERM a side
+    may close the connection at once, and need not send what it owes (section 6.1), a recording may begin late,
+    and TCP may hold back what was sent in time (section 5.1.1). `bugs` and `traits` are those of the session that
+    is changed.
     """
     rule: str
     change: object
@@ -116,6 +123,13 @@ def inserted(talk, name, position, it):
     sent = list(side(talk, name))
     near = sent[min(position, len(sent)) - 1]
     sent.insert(position, near._replace(it=it))
+    return talk.changed(name, sent)
+
+
+def moved(talk, name, position, to):
+    """The session with a message before an earlier one of its side."""
+    sent = list(side(talk, name))
+    sent.insert(to, sent[to]._replace(it=sent.pop(position).it))
     return talk.changed(name, sent)
 
 
@@ -216,6 +230,18 @@ def ack_too_long(rng, talk):
     return None
 
 
+def swapped(rng, talk):
+    """Two XFER_ACK of a transfer change their places."""
+    for it in answered(talk, rng, 2):
+        receiver = OTHER[it.side]
+        one, two = sorted(rng.sample(it.acks, 2))
+        first, second = side(talk, receiver)[one].it, side(talk, receiver)[two].it
+        if first.flags != second.flags:
+            talk = replaced(talk, receiver, one, **second._asdict())
+            return Changed(replaced(talk, receiver, two, **first._asdict()), receiver)
+    return None
+
+
 def unknown(kind, header):
     """An XFER_ACK or XFER_REFUSE has an ID that was never begun. The other side rejects it, as it has to."""
     def change(rng, talk):
@@ -277,7 +303,7 @@ def retried(rng, talk):
     data = [b"".join(mine[n].it.data for n in it.segments) for it in them]
     for n, it in enumerate(them):
         again = next((them[later] for later in range(n + 1, len(them)) if data[later] == data[n]), None)
-        if again and it.refusals and theirs[it.refusals[0]].it.reason == 2:
+        if again and it.refusals and len(it.acks) < len(it.segments) and theirs[it.refusals[0]].it.reason == 2:
             if seen_by_ack(talk, "a", again.segments[0]) > it.refusals[0]:
                 return Changed(talk, "a")
     return None
@@ -468,25 +494,19 @@ def term_unanswered(rng, talk):
     return name and Changed(without(talk, name, [terms(talk, name)[0]]), name)
 
 
-def starts_late(rng, talk):
-    """Side a begins a transfer after it has seen a SESS_TERM, and before its own."""
-    term, own = terms(talk, "b")[0], terms(talk, "a")[0]
-    for it in transfers(talk, "a"):
-        n = it.segments[0]
-        if term is not None and (own is None or n < own) and seen_by_ack(talk, "a", n) > term:
-            return Changed(talk, "a")
-    return None
-
-
 def accepts_late(rng, talk):
-    """A transfer that begins after the SESS_TERM of its sender is acknowledged."""
+    """A side acknowledges a transfer that begins after the reply to its own SESS_TERM."""
+    name = replier(talk)
     for it in answered(talk, rng):
-        n, term = terms(talk, it.side)
-        is_last = it.segments[-1] == at(side(talk, it.side), wire.Segment)[-1]
-        if is_last and n is not None and not term.flags & REPLY and n > it.segments[-1]:
-            sent = list(side(talk, it.side))
-            sent.insert(it.segments[0], sent[it.segments[0]]._replace(it=sent.pop(n).it))
-            return Changed(talk.changed(it.side, sent), OTHER[it.side])
+        if name != it.side:
+            continue
+        own, theirs = terms(talk, OTHER[name]), terms(talk, name)
+        is_last = it.segments[-1] == at(side(talk, name), wire.Segment)[-1] and it.segments[-1] < theirs[0]
+        others = at(side(talk, OTHER[name]), wire.Segment), at(side(talk, name), wire.Refuse)
+        is_free = max(others[0], default=0) < it.acks[0] and max(others[1], default=0) < it.segments[0]
+        if is_last and is_free and own[0] > it.acks[0]:
+            talk = moved(talk, OTHER[name], own[0], it.acks[0])
+            return Changed(moved(talk, name, theirs[0], it.segments[0]), OTHER[name])
     return None
 
 
@@ -602,47 +622,50 @@ LATE = ("peer", "order", "6.1: an entity SHALL NOT begin any new outgoing transf
 RESERVED = ("peer", "segment-flags", "5.2.2: All reserved header flag bits SHALL be set to 0 by the sender.")
 DIFFERS = ("peer", "length-differs", "5.2.5.1: Total Length: A 64-bit unsigned integer indicating the size of the data "
                                      "to be transferred.")
-SILENT = ("peer", "keepalive-late", "5.1.1: Both sides SHALL send a KEEPALIVE message whenever the negotiated interval "
-                                    "has elapsed with no transmission of any message.")
+UNSETTLED = ("same", "refuse-order", "5.2.4: The receiver MUST, for each transfer preceding the one to be refused, "
+                                     "have either acknowledged all XFER_SEGMENT messages or refused the bundle "
+                                     "transfer.")
+BOTH = ("peer", "tls", "4.4.3: the session entities SHALL begin a TLS handshake.")
 KINDS = {
     "ack-flags": Kind("ack-flags", ack_flags, traits=EXACT),
-    "ack-reserved": Kind("ack-flags", ack_reserved, "should", (RESERVED,)),
+    "ack-reserved": Kind("ack-flags", ack_reserved, "should", (RESERVED,), traits=EXACT),
     "ack-sum": Kind("ack-sum", ack_sum, traits=EXACT),
-    "ack-missing": Kind("ack-missing", ack_missing, traits=EXACT),
-    "all-missing": Kind("ack-missing", all_missing),
-    "ack-twice": Kind("ack-beyond", ack_twice),
-    "ack-too-long": Kind("ack-beyond", ack_too_long),
+    "ack-missing": Kind("ack-missing", ack_missing, "should", (UNSETTLED,), traits=EXACT),
+    "all-missing": Kind("ack-missing", all_missing, "should", (UNSETTLED,), traits=ORDERLY),
+    "ack-twice": Kind("ack-beyond", ack_twice, traits=ORDERLY),
+    "ack-too-long": Kind("ack-beyond", ack_too_long, traits=ORDERLY),
+    "swapped": Kind("answer-order", swapped, "should", traits=EXACT),
     "ack-unknown": Kind("ack-unknown", unknown(wire.Ack, 2)),
     "refuse-unknown": Kind("refuse-unknown", unknown(wire.Refuse, 3)),
-    "refuse-order": Kind("refuse-order", refuse_order, traits={"refusals": 0.3, "answers": 0.3, "in_order": True}),
-    "continued": Kind("refused-continued", continued, bugs=("continues",), traits={**EXACT, "refusals": 0.2, "longest": 5}),
+    "refuse-order": Kind("refuse-order", refuse_order, traits={**ORDERLY, "refusals": 0.3, "answers": 0.3}),
+    "continued": Kind("refused-continued", continued, bugs=("continues",),
+                      traits={**EXACT, "refusals": 0.2, "longest": 5}),
     "retried": Kind("retried", retried, "should", bugs=("retries",),
                     traits={**TALKATIVE, "refusals": 0.3, "reasons": [2]}),
-    "refused-acknowledged": Kind("refused-acknowledged", refused_acknowledged, "should", traits={"refusals": 0.2}),
-    "refuse-reason": Kind("refuse-reason", refuse_reason, "should", traits={"refusals": 0.2}),
-    "announces-wrong": Kind("length-not-refused", announces_wrong, others=(DIFFERS,)),
+    "refused-acknowledged": Kind("refused-acknowledged", refused_acknowledged, "should",
+                                 traits={**ORDERLY, "refusals": 0.2}),
+    "refuse-reason": Kind("refuse-reason", refuse_reason, "should", traits={**ORDERLY, "refusals": 0.2}),
+    "announces-wrong": Kind("length-not-refused", announces_wrong, "should", (DIFFERS,), traits=ORDERLY),
     "interleaved": Kind("interleaved", interleaved, traits=EXACT),
     "unfinished": Kind("unfinished", unfinished, "should", traits=EXACT),
     "peer-segment": Kind("peer-segment", limited("segment_mru")),
     "peer-transfer": Kind("peer-transfer", limited("transfer_mru")),
-    "stray-taken": Kind("taken-out-of-order", stray_taken, "should", (STRAY,)),
+    "stray-taken": Kind("taken-out-of-order", stray_taken, "should", (STRAY,), traits=ORDERLY),
     "reject-header": Kind("reject-header", reject_header),
-    "not-rejected": Kind("not-rejected", not_rejected),
-    "critical-session": Kind("critical-ignored", critical_session, "should"),
-    "critical-transfer": Kind("critical-ignored", critical_transfer, "should"),
+    "not-rejected": Kind("not-rejected", not_rejected, "should", traits=ORDERLY),
+    "critical-session": Kind("critical-ignored", critical_session, "should", traits=ORDERLY),
+    "critical-transfer": Kind("critical-ignored", critical_transfer, "should", traits=ORDERLY),
     "keepalive": Kind("keepalive", keepalive, "should"),
     "reply-alone": Kind("reply-alone", reply_alone),
     "reply-differs": Kind("reply-differs", reply_differs),
     "term-unanswered": Kind("term-unanswered", term_unanswered, "any"),
-    "starts-late": Kind("ending", starts_late, bugs=("starts",),
-                        traits={**TALKATIVE, "replies": 0.03, "ends": lambda it: 0.05 if it.name == "b" else 0}),
-    "accepts-late": Kind("ending", accepts_late, others=(LATE,)),
-    "tls": Kind("tls", tls),
+    "accepts-late": Kind("ending", accepts_late, others=(LATE,), traits=ORDERLY),
+    "tls": Kind("tls", tls, others=(BOTH,)),
     "plain-tls": Kind("tls", plain_tls),
     "version": Kind("version", version),
-    "bad-contact": Kind("after-bad-contact", bad_contact),
-    "no-session": Kind("no-session", no_session),
-    "silent": Kind("keepalive-late", silent, bugs=("silent",), is_timed=True),
-    "patient": Kind("idle", patient, "should", (SILENT,), ("silent", "patient"), is_timed=True),
-    "ack-early": Kind("ack-early", ack_early, traits=EXACT, is_timed=True),
+    "bad-contact": Kind("after-bad-contact", bad_contact, "should"),
+    "no-session": Kind("no-session", no_session, traits=ORDERLY),
+    "silent": Kind("keepalive-late", silent, "should", bugs=("silent",), is_timed=True),
+    "patient": Kind("idle", patient, "should", bugs=("silent", "patient"), is_timed=True),
+    "ack-early": Kind("ack-early", ack_early, "should", traits=EXACT, is_timed=True),
 }

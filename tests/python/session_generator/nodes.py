@@ -1,77 +1,71 @@
 """A node that keeps RFC 9174: what it sends depends only on what it has received, and on chance.
 
-It answers segments late, refuses transfers, abandons those that are refused, and ends the session.
-`bugs` makes it break a rule:
+`receiver` has its half that receives transfers, and `sender` the half that sends them. `bugs` makes it
+break a rule:
 
-  continues  goes on with a transfer that was refused (section 5.2.4)
-  retries    sends the bundle of a transfer again that was refused for resources (section 5.2.4)
-  starts     begins transfers after it has received a SESS_TERM (section 6.1)
-  silent     sends no KEEPALIVE (section 5.1.1)
-  patient    does not end a session whose other side is silent (section 5.1.1)
+  continues     goes on with a transfer that was refused (section 5.2.4)
+  retries       sends the bundle of a transfer again that was refused for resources (section 5.2.4)
+  silent        sends no KEEPALIVE (section 5.1.1)
+  patient       does not end a session whose other side is silent (section 5.1.1)
+  exceeds       sends segments and transfers that are longer than the other side takes (section 4.6)
+  misannounces  announces a length that a transfer does not have (section 5.2.5.1)
 """
 
 from model import wire
 
-from .messages import (
-    CRITICAL, END, LENGTH, REPLY, START, TYPES, Contact, Raw, Sent, bundle, length_item, segment, spelled,
-)
+from .messages import CRITICAL, REPLY, TYPES, Contact, Raw, Sent, spelled
+from .receiver import UNSUPPORTED, Receiver
+from .sender import Sender
 
-# Reasons (sections 5.2.4, 6.1 and 5.1.2)
-NO_RESOURCES, NOT_ACCEPTABLE, EXTENSION_FAILURE, TERMINATING = 0x02, 0x04, 0x05, 0x06
-IDLE, BUSY, CONTACT_FAILURE, EXHAUSTED = 0x01, 0x03, 0x04, 0x05
-UNKNOWN_TYPE, UNSUPPORTED = 0x01, 0x02
+# Reasons of SESS_TERM (section 6.1), and one for private use (section 8.7)
+IDLE, BUSY, CONTACT_FAILURE, EXHAUSTED, PRIVATE = 0x01, 0x03, 0x04, 0x05, 0xF7
 
-FIN = object()
+FIN, RESET = object(), object()
 
-# A node reads what has arrived within so many seconds
+# A node reads what has arrived within so many seconds, unless it stalls
 READING = 1
 
-
-class Incoming:
-    """A transfer of the other side: the segments without an answer, and the length so far."""
-
-    def __init__(self, it, is_late):
-        self.id, self.is_late, self.received, self.refused = it.id, is_late, 0, None
-        self.pending, self.has_ended, self.items = [], False, it.items
-        self.is_critical = any(each.flags & CRITICAL and each.kind != LENGTH for each in it.items)
-
-    def take(self, it):
-        """Takes a segment, with the sum of the lengths up to it."""
-        self.received += it.length
-        self.has_ended = self.has_ended or bool(it.flags & END)
-        self.pending.append((it, self.received))
+# How long a node that has sent its SESS_TERM waits for what is missing, in seconds
+PATIENCE = 120
 
 
-class Outgoing:
-    """A transfer of this node: the segments that are to be sent, and how many have no answer."""
+class Carrier:
+    """Carries messages to the other node in order, each with a delay of its own."""
 
-    def __init__(self, ident, data, segments):
-        self.id, self.data, self.left, self.waiting, self.refused = ident, data, segments, 0, False
+    def __init__(self, node):
+        self.node, self.last = node, 0.0
+
+    def send(self, _, now):
+        """Returns when a message arrives that is sent now."""
+        self.last = max(self.last, now + self.node.traits.delay())
+        return self.last
+
+    def put(self, it, now):
+        """Sends a message, or FIN. Returns how long it is under way."""
+        arrival = self.send(it, now)
+        self.node.peer.inbox.append((arrival, it))
+        return arrival - now
+
+    def drain(self, _):
+        """The node reads: what has arrived is in its inbox already."""
 
 
 class Node:
-    """A node. `traits` are those of `talks.traits`, and `rng` is all of its chance."""
+    """A node. `traits` are of `talks.Traits`, and `rng` is all of its chance."""
 
-    def __init__(self, rng, traits, bugs=()):
+    def __init__(self, rng, traits, bugs=(), carrier=Carrier):
         self.rng, self.traits, self.bugs = rng, traits, set(bugs)
-        self.sent, self.inbox, self.seen, self.now, self.wake, self.rest = [], [], 0, 0.0, 0.0, 0.0
+        self.sent, self.inbox, self.seen, self.now, self.wake = [], [], 0, 0.0, 0.0
+        self.rest, self.stall, self.last_in, self.ended = 0.0, 0.0, 0.0, 0.0
         self.peer, self.peer_init, self.has_contact, self.is_closed, self.was_reset = None, None, False, False, False
-        self.term, self.peer_term, self.peer_fin = None, None, False
-        self.incoming, self.outgoing, self.open, self.used = {}, {}, None, set()
-        self.owed, self.bundles, self.sequence, self.last_in = [], traits.bundles, rng.randrange(1 << 16) * 1000, 0.0
-        self.wants_term = None
+        self.term, self.peer_term, self.peer_fin, self.wants_term, self.owed = None, None, False, None, []
+        self.receiver, self.sender, self.carrier = Receiver(self), Sender(self), carrier(self)
 
     # ---- sending
 
     def send(self, it):
         """Sends a message."""
-        delay = self.traits.delay()
-        if self.sent:
-            before = self.sent[-1]
-            delay = max(delay, before.time + before.delay - self.now)
-        self.sent.append(Sent(it, self.now, delay, self.seen))
-        if not isinstance(it, Raw):
-            self.peer.inbox.append((self.now + delay, it))
+        self.sent.append(Sent(it, self.now, self.carrier.put(it, self.now), self.seen))
 
     def has_sent(self, kind):
         """Returns whether it has sent a message of that kind."""
@@ -86,23 +80,24 @@ class Node:
     def close(self):
         """Closes the connection."""
         self.is_closed = True
-        arrival = self.now + self.traits.delay()
-        if self.sent:
-            arrival = max(arrival, self.sent[-1].time + self.sent[-1].delay)
-        self.peer.inbox.append((arrival, FIN))
+        self.carrier.put(FIN, self.now)
 
     def end(self, reason):
-        """Begins to end the session."""
+        """Begins to end the session, or replies to the other side that did."""
         if self.term is None:
-            self.term = wire.SessTerm(0, reason)
-            self.send(self.term)
+            it = wire.SessTerm(0, reason)
+            if self.peer_term is not None:
+                it = self.peer_term._replace(flags=self.peer_term.flags | REPLY)
+            self.term, self.ended = it, self.now
+            self.send(it)
 
     # ---- receiving
 
     def receive(self, it):
         """Processes what has arrived."""
-        if it is FIN:
+        if it is FIN or it is RESET:
             self.peer_fin = True
+            self.was_reset = self.was_reset or it is RESET
             return
         self.seen, self.last_in = self.seen + 1, self.now
         if isinstance(it, Contact):
@@ -110,15 +105,15 @@ class Node:
         elif isinstance(it, wire.SessInit):
             self.receive_init(it)
         elif isinstance(it, wire.Segment):
-            self.receive_segment(it)
+            self.receiver.take(it)
         elif isinstance(it, wire.Ack):
-            self.outgoing[it.id].waiting -= 1
+            self.sender.acknowledged(it)
         elif isinstance(it, wire.Refuse):
-            self.receive_refusal(it)
+            self.sender.refused(it)
+        elif isinstance(it, wire.Reject):
+            self.sender.rejected += it.header == TYPES[wire.Segment]
         elif isinstance(it, wire.SessTerm):
             self.peer_term = self.peer_term or it
-            if self.term is None:
-                self.owed.append(wire.SessTerm(it.flags | REPLY, it.reason))
         elif isinstance(it, wire.Keepalive) and self.rng.random() < self.traits.rejects:
             self.owed.append(wire.Reject(UNSUPPORTED, TYPES[wire.Keepalive]))
 
@@ -131,136 +126,42 @@ class Node:
         elif (it.segment_mru == 0 or it.transfer_mru == 0) and self.traits.is_strict:
             self.wants_term = CONTACT_FAILURE
 
-    def receive_segment(self, it):
-        """A segment waits for its answer. A transfer is late if it begins in the Ending state."""
-        if it.flags & START:
-            self.incoming[it.id] = Incoming(it, self.term is not None)
-        self.incoming[it.id].take(it)
-
-    def receive_refusal(self, it):
-        """A transfer is refused: it is abandoned if it is open, and perhaps begun again."""
-        refused, is_first = self.outgoing[it.id], not self.outgoing[it.id].refused
-        refused.refused = True
-        if self.open is refused and "continues" not in self.bugs:
-            self.open = None
-        may_retry = it.reason not in (NO_RESOURCES, NOT_ACCEPTABLE, TERMINATING)
-        has_bug = "retries" in self.bugs and it.reason == NO_RESOURCES
-        if is_first and (has_bug or may_retry and self.rng.random() < 0.3):
-            self.bundles.insert(self.rng.randint(0, len(self.bundles)), refused.data)
-
-    # ---- answers
-
-    def pending(self):
-        """The transfers whose segments have no answer."""
-        return [it for it in self.incoming.values() if it.pending]
-
-    def is_settled(self, it):
-        """Whether each transfer before this one is answered or refused (section 5.2.4)."""
-        for each in self.incoming.values():
-            if each is it:
-                return True
-            if each.pending and each.refused is None:
-                return False
+    def peek(self, it, now):
+        """May refuse a transfer before its first segment has come whole (section 5.2.4). Returns whether it did."""
+        is_ready = not (self.inbox or self.is_closed) and self.is_established() and self.receiver.is_settled()
+        if not is_ready or self.rng.random() >= self.traits.peeks:
+            return False
+        self.now = max(self.now, now)
+        self.receive(it)
+        self.receiver.refuse(self.receiver.transfers[it.id])
         return True
 
-    def refuse(self, it):
-        """Refuses a transfer. The segments that wait are refused with it, or one by one."""
-        if it.refused is None:
-            reasons = list(self.traits.reasons)
-            reasons += [EXTENSION_FAILURE] if it.items else []
-            reasons += [TERMINATING] if self.term else []
-            due = TERMINATING if it.is_late else EXTENSION_FAILURE if it.is_critical else None
-            it.refused = due or self.rng.choice(reasons)
-            if self.traits.refuses_at_once:
-                del it.pending[1:]
-        if it.pending:
-            it.pending.pop(0)
-        self.send(wire.Refuse(it.refused, it.id))
+    def take_until(self, time):
+        """Processes what has arrived by then."""
+        while self.inbox and self.inbox[0][0] <= time:
+            self.receive(self.inbox.pop(0)[1])
 
-    def answer(self):
-        """Answers a segment."""
-        waiting = self.pending()
-        it = waiting[0] if self.traits.in_order else self.rng.choice(waiting)
-        if it.refused is not None:
-            self.refuse(it)
-            return
-        wants = it.is_late or it.is_critical or self.rng.random() < self.traits.refusals
-        if wants and not self.is_settled(it):
-            it, wants = waiting[0], False
-            if it.refused is not None or it.is_late or it.is_critical:
-                wants = True
-        if wants:
-            self.refuse(it)
-            return
-        of, total = it.pending.pop(0)
-        self.send(wire.Ack(of.flags, it.id, it.received if self.traits.so_far else total))
-
-    def refuse_early(self):
-        """Refuses a transfer of which all segments so far are acknowledged."""
-        them = [it for it in self.incoming.values() if not it.pending and it.refused is None and self.is_settled(it)]
-        them = [it for it in them if not it.has_ended or self.rng.random() < 0.05]
-        if them:
-            self.refuse(them[-1])
-
-    # ---- transfers
-
-    def begin(self):
-        """Begins a transfer, unless the other side takes no such bundle."""
-        data = self.bundles.pop(0)
-        if isinstance(data, int):
-            self.sequence += 1
-            data = bundle(self.sequence, self.rng.randbytes(data))
-        if len(data) > self.peer_init.transfer_mru or self.peer_init.segment_mru == 0:
-            return
-        ident = self.traits.ident(len(self.used))
-        while ident in self.used:
-            ident = self.rng.getrandbits(64)
-        self.used.add(ident)
-        self.open = self.outgoing[ident] = Outgoing(ident, data, self.cut(ident, data))
-        self.send_segment()
-
-    def cut(self, ident, data):
-        """The segments of a transfer."""
-        limit, pieces, at = self.peer_init.segment_mru, [], 0
-        while at < len(data):
-            size = 0 if self.rng.random() < self.traits.empty else self.traits.size(limit)
-            pieces.append(data[at:at + size])
-            at += len(pieces[-1])
-        if self.rng.random() < self.traits.empty:
-            pieces.append(b"")
-        items = list(self.traits.items())
-        if len(pieces) > 1 and self.rng.random() < self.traits.announces:
-            items.insert(self.rng.randint(0, len(items)), length_item(len(data), self.rng.randint(0, 1)))
-        last = len(pieces) - 1
-        flags = [(START if at == 0 else 0) | (END if at == last else 0) for at in range(len(pieces))]
-        return [segment(each, ident, piece, items) for each, piece in zip(flags, pieces)]
-
-    def send_segment(self):
-        """Sends the next segment of the open transfer."""
-        it = self.open
-        self.send(it.left.pop(0))
-        it.waiting += 1
-        if not it.left:
-            self.open = None
-
-    # ---- turns
+    # ---- what it may do
 
     def is_established(self):
         """Whether both SESS_INIT have come."""
         return self.peer_init is not None and self.has_sent(wire.SessInit)
 
     def may_begin(self):
-        """Whether a new transfer may begin."""
-        is_ending = self.term is not None or self.peer_term is not None and "starts" not in self.bugs
-        has_turn = self.open is None and bool(self.bundles)
-        return self.is_established() and has_turn and not is_ending and not self.wants_term
+        """Whether a new transfer may begin: it may until the own SESS_TERM is sent (sections 3.3 and 6.1)."""
+        is_ending = self.term is not None or self.peer_term is not None and not self.traits.begins_late
+        has_turn = self.sender.open is None and bool(self.sender.bundles)
+        return self.is_established() and has_turn and not is_ending and self.wants_term is None
+
+    def owes_reply(self):
+        """Whether a SESS_TERM has come that needs a reply (section 6.1)."""
+        return self.peer_term is not None and self.term is None
 
     def has_finished(self):
         """Whether the session has ended: both SESS_TERM have come, and nothing is in progress."""
-        if self.term is None or self.peer_term is None or self.open or self.owed or self.pending():
+        if self.term is None or self.peer_term is None or self.owed:
             return False
-        is_answered = all(it.refused or it.waiting == 0 for it in self.outgoing.values())
-        return is_answered and all(it.has_ended or it.refused is not None for it in self.incoming.values())
+        return self.sender.is_done() and self.receiver.is_done()
 
     def negotiate(self):
         """Sends the next message of the negotiation, if it is due. Returns whether it did."""
@@ -275,38 +176,39 @@ class Node:
             self.end(BUSY)
             return True
         is_due = self.has_contact and (self.traits.is_active or self.peer_init is not None)
-        if is_due and self.wants_term is None:
+        is_due = is_due and (self.wants_term is None or self.traits.replies_before_end)
+        if is_due:
             self.send(self.traits.init)
-        return is_due and self.wants_term is None
+        return is_due
 
     def choices(self):
         """What it may do now: pairs of a weight and a function."""
         found = []
-        if self.pending():
-            found.append((self.traits.answers, self.answer))
-        if self.open:
-            found.append((3, self.send_segment))
+        if self.receiver.pending():
+            found.append((self.traits.answers, self.receiver.answer))
+        if self.sender.open:
+            found.append((3, self.sender.send))
+            found += [(self.traits.stops, self.sender.stop)] if self.term else []
         if self.may_begin():
-            found.append((2, self.begin))
-        if self.owed:
+            found.append((2, self.sender.begin))
+        if self.owed or self.owes_reply():
             found.append((self.traits.replies, self.pay))
         if self.is_established():
             found.append((0.3, self.rest_for_a_while))
-            found.append((self.traits.refusals, self.refuse_early))
+            found.append((self.traits.refusals, self.receiver.refuse_early))
+            found.append((self.traits.repeats, self.receiver.refuse_again))
             found += [(0.1, self.keep_alive)] if self.interval() and "silent" not in self.bugs else []
             if self.term is None and self.peer_term is None:
-                is_done = not (self.open or self.bundles or self.pending())
+                is_done = not (self.sender.open or self.sender.bundles or self.receiver.pending())
                 found.append((0.5 if is_done else self.traits.ends, self.end_now))
         return found
 
     def pay(self):
-        """Sends a SESS_TERM with REPLY or a MSG_REJECT that is due."""
-        it = self.owed.pop(0)
-        if isinstance(it, wire.SessTerm):
-            if self.term is not None:
-                return
-            self.term = it
-        self.send(it)
+        """Sends a MSG_REJECT or the reply to a SESS_TERM."""
+        if self.owed:
+            self.send(self.owed.pop(0))
+        else:
+            self.end(None)
 
     def keep_alive(self):
         """Sends a KEEPALIVE."""
@@ -314,40 +216,49 @@ class Node:
 
     def end_now(self):
         """Ends the session for a reason of its own."""
-        self.end(self.rng.choice([0, IDLE, BUSY, EXHAUSTED]))
+        self.end(self.rng.choice([0, IDLE, BUSY, EXHAUSTED, PRIVATE]))
 
     def rest_for_a_while(self):
-        """Does nothing but what the interval asks for."""
+        """Does nothing except what the interval asks for. If it stalls, it does not even read."""
         limit = self.interval() or 20
         self.rest = self.now + self.rng.uniform(0, 4) * limit
+        if self.rng.random() < self.traits.stalls:
+            self.stall = self.rest
+
+    # ---- the end
 
     def leave(self):
         """Answers what has arrived, and closes the connection (section 6.1)."""
         self.take_until(self.now)
         if self.wants_term is not None:
             self.end(self.wants_term)
-        while self.pending() or self.owed:
-            if self.owed and (not self.pending() or self.rng.random() < 0.5):
+        while self.receiver.pending() or self.owed or self.owes_reply():
+            if not self.receiver.pending() or (self.owed or self.owes_reply()) and self.rng.random() < 0.5:
                 self.pay()
             else:
-                self.answer()
+                self.receiver.answer()
         self.close()
 
-    def take_until(self, time):
-        """Processes what has arrived by then."""
-        while self.inbox and self.inbox[0][0] <= time:
-            self.receive(self.inbox.pop(0)[1])
+    def leave_at_once(self):
+        """Closes the connection after its SESS_TERM. It may lack answers (section 6.1)."""
+        if self.rng.random() < self.traits.drops:
+            self.close()
+        else:
+            self.leave()
 
     def abort(self):
         """Closes the connection inside a message (section 6.1)."""
-        content = spelled(self.open.left[0])
+        content = spelled(self.sender.open.left[0])
         self.send(Raw(content[:self.rng.randrange(1, len(content))]))
         self.close()
 
     def after_fin(self):
-        """The other side closed the connection: this one does so too, or is cut off."""
-        if self.rng.random() < 0.3 and (self.pending() or self.owed or self.open):
+        """The other side closed the connection: this one does so too, with its answers or without, or is cut off."""
+        is_behind = self.receiver.pending() or self.owed or self.sender.open or self.owes_reply()
+        if self.was_reset or is_behind and self.rng.random() < self.traits.vanishes:
             self.is_closed = self.was_reset = True
+        elif is_behind and self.rng.random() < 0.4:
+            self.close()
         else:
             self.leave()
 
@@ -361,10 +272,14 @@ class Node:
         interval = self.interval()
         return interval > 0 and "silent" not in self.bugs and self.now >= self.sent[-1].time + interval
 
+    # ---- turns
+
     def turn(self):
         """Reads what has arrived, does one thing, and sets when it wakes again."""
         self.now = self.wakes()
-        self.take_until(self.now - READING + 1e-6)
+        if self.now >= self.stall:
+            self.carrier.drain(self.now)
+            self.take_until(self.now - READING + 1e-6)
         if self.now >= self.rest:
             self.work()
             self.wake = self.now + self.rng.expovariate(self.traits.pace)
@@ -376,7 +291,9 @@ class Node:
 
     def wakes(self):
         """When it has its next turn. It reads what has arrived in time."""
-        return min(self.wake, max(self.now, self.inbox[0][0] + READING)) if self.inbox else self.wake
+        if self.inbox and self.wake > self.stall:
+            return min(self.wake, max(self.now, self.stall, self.inbox[0][0] + READING))
+        return self.wake
 
     def work(self):
         """Processes some of what has arrived, and does one thing."""
@@ -388,11 +305,13 @@ class Node:
             self.after_fin()
         elif self.is_silent_for_long():
             self.keep_alive()
-        elif self.has_finished() or self.term and self.traits.is_hasty and self.rng.random() < 0.3:
+        elif self.has_finished() or self.term and self.now > self.ended + PATIENCE + 4 * self.interval():
             self.leave()
-        elif self.open and self.traits.aborts and self.term is None and self.rng.random() < 0.05:
+        elif self.term and self.traits.is_hasty and self.rng.random() < 0.3:
+            self.leave_at_once()
+        elif self.sender.open and self.traits.aborts and self.rng.random() < 0.05:
             self.abort()
-        elif self.wants_term is not None and self.term is None:
+        elif self.wants_term is not None and self.is_ready_to_end():
             self.end(self.wants_term)
         elif self.is_established() and self.term is None and self.is_idle():
             self.end(IDLE)
@@ -400,3 +319,8 @@ class Node:
             choices = self.choices()
             if choices:
                 self.rng.choices([it for _, it in choices], [weight for weight, _ in choices])[0]()
+
+    def is_ready_to_end(self):
+        """Whether it ends now a session that cannot go on: some nodes send their SESS_INIT first (figure 9)."""
+        has_init = not self.traits.replies_before_end or self.has_sent(wire.SessInit)
+        return self.term is None and (has_init or self.peer_term is not None)

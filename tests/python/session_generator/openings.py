@@ -30,6 +30,13 @@ def another_version(rng):
     return side(True, Contact(0, rng.choice([3, 5, 200]))), side(True, Contact(), wire.SessTerm(0, 2))
 
 
+def another_answer(rng):
+    """The passive entity has another version. The active one closes at once, or refuses a higher one (section 4.2)."""
+    version = rng.choice([3, 5, 200])
+    term = [wire.SessTerm(0, rng.choice([2, 4]))] if version > 4 and rng.random() < 0.8 else []
+    return side(True, Contact(), *term), side(True, Contact(0, version))
+
+
 def handshake(rng):
     """Both enable TLS, and its handshake begins (section 4.4.3)."""
     messages = Contact(CAN_TLS), Raw(HELLO)
@@ -58,7 +65,7 @@ def unknown_type(rng):
     return one, side(True, Contact(), an_init(rng), wire.Reject(1, kind))
 
 
-KINDS = [nothing, another_version, handshake, no_tls, refused, unknown_type]
+KINDS = [nothing, another_version, another_answer, handshake, no_tls, refused, unknown_type]
 
 
 def opening(rng):

@@ -6,7 +6,8 @@ from typing import NamedTuple
 from model import wire
 
 from .messages import CAN_TLS, CRITICAL, EXPERIMENTS, SMALLEST, spelled
-from .nodes import NO_RESOURCES, NOT_ACCEPTABLE, Node
+from .nodes import Carrier, Node
+from .receiver import NO_RESOURCES, NOT_ACCEPTABLE, ORDERS, REFUSED, REJECTED, SUMS, TAKEN
 
 STEPS = 20000
 SMALL, USUAL = [1, 2, 3, 7, 20], [40, 64, 100, 1000, 1 << 16, (1 << 64) - 1]
@@ -65,7 +66,7 @@ class Talk(NamedTuple):
 
 
 class Traits:
-    """What sets a node apart: its parameters, and how likely it does what."""
+    """What sets a node apart: its parameters, and how likely it does what. It keeps its way of answering."""
 
     def __init__(self, rng, line, is_active, name):
         self.rng, self.line, self.is_active, self.name = rng, line, is_active, name
@@ -73,15 +74,20 @@ class Traits:
         self.init = init(rng, line)
         self.is_strict = rng.random() < 0.5
         self.leaves_early = rng.random() < 0.03
-        self.is_hasty, self.aborts = rng.random() < 0.15, rng.random() < 0.04
+        self.is_hasty, self.drops, self.aborts = rng.random() < 0.15, rng.choice([0, 0.5, 1]), rng.random() < 0.04
         self.refusals = rng.choice([0, 0, 0.03, 0.1, 0.3])
-        self.reasons = [0, 1, NO_RESOURCES, 3, NOT_ACCEPTABLE]
-        self.refuses_at_once = rng.random() < 0.5
-        self.rejects = rng.choice([0, 0, 0, 0.3])
-        self.in_order, self.so_far = rng.random() < 0.7, rng.random() < 0.1
-        self.answers, self.replies = rng.choice([0.3, 1, 3, 10]), rng.choice([0.3, 1, 5])
+        self.reasons = [0, 1, NO_RESOURCES, 3, NOT_ACCEPTABLE, rng.randint(0xF0, 0xFF)]
+        self.refuses_at_once, self.repeats = rng.random() < 0.5, rng.choice([0, 0, 0.1])
+        self.rejects, self.segment_rejections = rng.choice([0, 0, 0, 0.3]), rng.choice([0, 0, 0, 0.05, 0.3])
+        self.above = rng.choice([REJECTED, REJECTED, REFUSED, TAKEN])
+        self.after_rejection = rng.choice([REJECTED, REFUSED, TAKEN])
+        self.order, self.sums = rng.choice(ORDERS), rng.choice(SUMS)
+        self.late_acks, self.begins_late = rng.choice([0, 0, 0.5]), rng.random() < 0.5
+        self.replies_before_end, self.stops = rng.random() < 0.5, rng.choice([0, 0, 1])
+        self.stalls, self.vanishes, self.peeks = 0, 0.2, 0
+        self.answers, self.replies = rng.choice([0.3, 1, 3, 10]), rng.choice([0.03, 0.3, 1, 5])
         self.ends, self.pace = rng.choice([0.002, 0.02, 0.1]), rng.choice([0.5, 3, 20])
-        self.empty = rng.choice([0, 0, 0, 0.1])
+        self.empty = rng.choice([0, 0, 0.1, 0.4])
         self.announces = rng.choice([0, 0.5, 1])
         self.bundles = [rng.randint(0, 60) for _ in range(rng.choice([0, 1, 2, 5, 9]))]
         self.counts_up, self.longest = rng.random() < 0.7, rng.choice([5, 25, 60, 1000])
@@ -128,19 +134,25 @@ def init(rng, line):
     return wire.SessInit(interval, segment, limit if rng.random() > 0.05 else 0, node, items)
 
 
-def talk(seed, bugs=(), **fixed):
-    """A session. Side a has the bugs, but `patient` is one of side b. `fixed` sets traits of both."""
-    rng = random.Random(seed)
-    line = Line(rng.choice([0.001, 0.03, 0.3, 0.6]), shared_items(rng), rng.choice([1, 2, 5, 30, 60, 600]))
+def nodes_of(rng, line, bugs, carrier, fixed):
+    """Two nodes that are connected."""
     is_active = rng.random() < 0.5
     traits = [Traits(rng, line, is_active, "a"), Traits(rng, line, not is_active, "b")]
     for it in traits:
         vars(it).update({name: value(it) if callable(value) else value for name, value in fixed.items()})
     if rng.random() < 0.1:
         rng.choice(traits).flags = CAN_TLS
-    nodes = [Node(rng, traits[0], set(bugs) - {"patient"}), Node(rng, traits[1], set(bugs) & {"patient"})]
+    bugs = set(bugs) - {"patient"}, set(bugs) & {"patient"}
+    nodes = [Node(rng, *it, carrier) for it in zip(traits, bugs)]
     nodes[0].peer, nodes[1].peer = nodes[1], nodes[0]
-    steps = STEPS
+    return nodes
+
+
+def talk(seed, bugs=(), **fixed):
+    """A session. Side a has the bugs, but `patient` is one of side b. `fixed` sets traits of both."""
+    rng = random.Random(seed)
+    line = Line(rng.choice([0.001, 0.03, 0.3, 0.6]), shared_items(rng), rng.choice([1, 2, 5, 30, 60, 600]))
+    nodes, steps = nodes_of(rng, line, bugs, Carrier, fixed), STEPS
     while steps and not all(it.is_closed for it in nodes):
         min((it for it in nodes if not it.is_closed), key=Node.wakes).turn()
         steps -= 1
