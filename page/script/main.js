@@ -1,8 +1,10 @@
 // Where a session comes from: the lines that the page has, or the files that are dropped on it.
 
 let view = null;
-// The recordings that were dropped, with their times, if the session is theirs
+// The recordings that were dropped, with their times, if the session is theirs, and the names of the
+// other files that came with them
 let dropped = [];
+let passed = [];
 
 /** Says how far the work is, and lets that be seen. */
 async function progress(text, share) {
@@ -51,7 +53,6 @@ async function showLines() {
   }
   session.isJoint = both !== null;
   session.takeRules(partOf(both, "rules"));
-  session.tieRules();
   // A report of the fault of a recording says what its side shows.
   const faults = session.sides.map(({ file, fault }) =>
     fault && `${file}: byte ${fault.offset}: ${fault.text}`);
@@ -87,9 +88,9 @@ async function moduleOf(text) {
   }
 }
 
-/** Returns the limits that a side sets to the other, as options of `check`. */
-function limitsOf(other) {
-  const init = other?.init;
+/** Returns the limits of the other side as options of `check`, if no recording lacks its beginning. */
+function limitsOf(side, session) {
+  const init = session.sides.every((it) => it.isBegun) ? session.other(side)?.init : null;
   return init
     ? {
         has_peer_segment: 1, peer_segment: init["segment-mru"],
@@ -120,12 +121,11 @@ async function showRecordings(recordings, module) {
     const wants = { output: false, report: true };
     side.takeReport(side.tools.run("unpack", { keep_going: 1 }, wants).report);
     await step(side, "rules");
-    const limits = limitsOf(session.other(side));
+    const limits = limitsOf(side, session);
     session.takeRules(side.tools.run("check", limits).output, side);
   }
-  session.tieRules();
-  if (session.sides.length > 1) {
-    session.notes.push("Rules that need both sides are judged by tcpclkit-page alone.");
+  if (passed.length > 0) {
+    session.notes.push(`Passed over, as empty or as no recording: ${listed(passed).join("")}.`);
   }
   view?.end();
   view = new View(session, blocksByModule);
@@ -140,27 +140,48 @@ function blocksByModule(transfer) {
   return [...blocksOf(output)][same.indexOf(transfer)] ?? [];
 }
 
-// How a capture begins: pcap, of both orders and of both resolutions, and pcapng
+// How a capture begins: pcap, of both orders and of both resolutions, and pcapng. And a recording
 const CAPTURES = ["d4c3b2a1", "a1b2c3d4", "4d3cb2a1", "a1b23c4d", "0a0d0d0a"];
+const RECORDING = "64746e21";
+
+/** Returns the first four bytes of a file, in hexadecimal. */
+const startOf = ({ bytes }) => Array.from(bytes.subarray(0, 4), pairOf).join("");
+
+/** Whether a file is a recording, by its first bytes or by its name. An empty one is none. */
+const isRecording = (it) =>
+  startOf(it) === RECORDING || (it.file.endsWith(".tcpcl") && it.bytes.length > 0);
 
 /** Returns what is wrong with a file as a recording, or an empty text. */
-function refusalOf({ file, bytes }) {
-  const start = Array.from(bytes.subarray(0, 4), pairOf).join("");
-  if (CAPTURES.includes(start)) {
+function refusalOf(it) {
+  const { file, bytes } = it;
+  if (CAPTURES.includes(startOf(it))) {
     return `${file} is a capture, and no recording. Run: tcpclkit-capture --page FOLDER ${file}`;
   }
   return bytes.length === 0 ? `${file} is empty.` : "";
 }
 
-/** Returns the recordings among some files, in the order of their names, each with its times. */
+/** Returns the bytes of a file. A folder has none, and a page that is a file cannot look into it. */
+async function bytesOf(file) {
+  try {
+    return new Uint8Array(await file.arrayBuffer());
+  } catch {
+    throw new Error(`${file.name} cannot be read. If it is a folder, drop the files in it.`);
+  }
+}
+
+/**
+ * Returns the recordings among some files, in the order of their names, each with its times. And the
+ * names of the files that are passed over. If no file is a recording, all of them are taken as such.
+ */
 async function recordingsIn(files) {
   const read = [];
   for (const file of [...files].sort((one, two) => compared(one.name, two.name))) {
     await progress(`Reading ${file.name}`, 0);
-    read.push({ file: file.name, bytes: new Uint8Array(await file.arrayBuffer()), times: null });
+    read.push({ file: file.name, bytes: await bytesOf(file), times: null });
   }
   const isTimes = (it) => it.file.endsWith(".times");
-  const recordings = read.filter((it) => !isTimes(it));
+  const others = read.filter((it) => !isTimes(it));
+  const recordings = others.some(isRecording) ? others.filter(isRecording) : others;
   const stem = (name) => name.replace(/\.[^.]*$/, "");
   for (const it of read.filter(isTimes)) {
     const of = recordings.find((recording) => stem(recording.file) === stem(it.file));
@@ -168,7 +189,8 @@ async function recordingsIn(files) {
       of.times = it.bytes;
     }
   }
-  return recordings;
+  const names = others.filter((it) => !recordings.includes(it)).map((it) => it.file);
+  return [recordings, names];
 }
 
 /** Gives dropped bytes to the side whose recording they are. Returns whether there is one. */
@@ -186,7 +208,7 @@ function giveBytes(recordings) {
 /** Shows the session of the files that were dropped. */
 async function open(files) {
   complain("");
-  const recordings = await recordingsIn(files);
+  const [recordings, names] = await recordingsIn(files);
   const wrong = recordings.map(refusalOf).find((it) => it !== "");
   const text = element("module")?.textContent;
   await progress("", 0);
@@ -199,6 +221,7 @@ async function open(files) {
   } else {
     const isOther = recordings.length === 1 && dropped.length === 1;
     dropped = isOther ? [...dropped, ...recordings] : recordings;
+    passed = names;
     await openDropped(text);
   }
 }

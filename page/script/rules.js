@@ -11,6 +11,10 @@ function rulesOfPage() {
 
 const isMust = (lines) => lines.some((it) => it.level === "must");
 
+/** Whether a line is of a rule of bundles: the bytes do not show who wrote what breaks it. */
+const isOfBundle = ({ rule, words }) =>
+  words.startsWith("transfer=") && rule !== "unfinished" && !rule.startsWith("length-");
+
 /** Returns the lines of each rule: the rules of level must first. */
 function byRule(lines) {
   const rules = new Map();
@@ -25,7 +29,7 @@ function byRule(lines) {
 
 // ---- the title
 
-// How many rules of a side the title names
+// How many rules of a side the title names, and how many of its bundles
 const NAMED = 4;
 
 /** Makes the title: which rules each side breaks, and what became of the transfers. */
@@ -44,15 +48,27 @@ function verdictView(session) {
 /** Returns the name of the part of a rule, to which a link leads. */
 const partNameOf = (rule) => `broken-${rule}`;
 
-/** Makes the part of the title about the rules that a side breaks, if any. */
+/** Makes the parts of the title about the rules that a side breaks, and that its bundles break. */
 function breaksView(side, session) {
-  const names = byRule(session.broken.filter((it) => it.of === side)).map(([name]) => name);
+  const lines = session.broken.filter((it) => it.of === side);
+  const ofBundles = lines.filter(isOfBundle);
+  const isOne = new Set(ofBundles.map((it) => it.offset)).size === 1;
+  const who = isOne ? `a bundle of side ${side.name} breaks ` : `bundles of side ${side.name} break `;
+  const parts = [
+    [`side ${side.name} breaks `, lines.filter((it) => !isOfBundle(it))],
+    [who, ofBundles],
+  ];
+  return parts.filter(([, of]) => of.length > 0).map(([begin, of]) => [begin, ...namesView(of)]);
+}
+
+/** Makes the names of the rules of some lines, each a link. Those after the first ones are counted. */
+function namesView(lines) {
+  const names = byRule(lines).map(([name]) => name);
   const shown = names.slice(0, names.length > NAMED ? NAMED - 1 : NAMED);
   const links = shown.map((name) =>
     make("a", { href: `#${partNameOf(name)}` }, make("code", {}, name)));
   const left = names.length - shown.length;
-  const more = left > 0 ? [several(left, "more rule")] : [];
-  return names.length > 0 ? [[`side ${side.name} breaks `, ...listed([...links, ...more])]] : [];
+  return listed([...links, ...(left > 0 ? [several(left, "more rule")] : [])]);
 }
 
 /** Returns the parts of the title about the transfers: whose they are, and what is wrong. */
@@ -73,6 +89,17 @@ function transfersText({ sides, transfers }) {
   });
 }
 
+/** Says which rules the title of two recordings leaves out, and why. Null if both were judged. */
+function leftOutView({ sides, isJoint, undecided }) {
+  if (isJoint || sides.length === 1) {
+    return null;
+  }
+  const they = byRule(undecided).length === 1 ? "it is" : "they are";
+  const leftOut = undecided.length === 0 ? [] : [" The title leaves out ", ...namesView(undecided),
+    `: one recording alone does not show whether ${they} broken.`];
+  return ["This page judges each side alone. tcpclkit-page judges both together.", ...leftOut];
+}
+
 // ---- in the table of transfers
 
 /** Makes the names of the rules that were broken by and about a transfer, by side. */
@@ -86,8 +113,9 @@ function brokenNames(transfer, { sides }) {
 
 /** Makes the line of a broken rule in its transfer. */
 function brokenView(broken, session, chosen) {
+  const who = `${isOfBundle(broken) ? "this bundle of " : ""}${broken.side}`;
   return [badge(broken.level, broken.level), " ", make("code", {}, broken.rule),
-    ` broken by ${broken.side} `, atView(broken, chosen), " ", wordsView(broken, session, chosen)];
+    ` broken by ${who} `, atView(broken, chosen), " ", wordsView(broken, session, chosen)];
 }
 
 // ---- the lines of a rule
@@ -173,6 +201,12 @@ function linesView(lines, session, chosen) {
   return list;
 }
 
+/** Says whom a rule binds, unless it is the side that sent what breaks it. */
+function bindsView(cells) {
+  const whom = cells.map((it) => it.textContent).join("");
+  return ["", "sender"].includes(whom) ? null : make("p", { class: "quiet" }, "It binds: ", ...cells, ".");
+}
+
 /** Returns the sentences on which the faults rest whose codes some lines have. */
 function quotesOfCodes(lines) {
   const codes = new Set(lines.map((it) => valuesOf(it.words).code).filter(Boolean));
@@ -182,21 +216,23 @@ function quotesOfCodes(lines) {
   });
 }
 
-/** Makes the part of a rule that is broken: its sentence, and its lines. */
-function ruleView(name, lines, row, session, chosen) {
+/** Makes the part of a rule: its sentence, and its lines. `how` is `broken`, or `perhaps broken`. */
+function ruleView(name, lines, how, row, session, chosen) {
   const cell = (part) =>
     row ? [...row.querySelector(`[data-part="${part}"]`).cloneNode(true).childNodes] : [];
   const levels = [...new Set(lines.map((it) => it.level))].sort();
   const sides = [...new Set(lines.map((it) => it.side))].sort();
+  const who = `${isOfBundle(lines[0]) ? "bundles of " : ""}${sides.join(" and ")}`;
   const [quotes, advice] = [[...cell("quotes"), ...quotesOfCodes(lines)], cell("advice")];
   const when = row?.dataset.sides === "two"
     ? `Side S (here ${sides.join(" and ")}) breaks it if, with Q as the other side, ` : "Broken if ";
   return make("article", { class: "rule", id: partNameOf(name) },
     make("h3", {}, levels.flatMap((it) => [badge(it, it), " "]), make("code", {}, name),
-      ` broken by ${sides.join(" and ")}`,
+      ` ${how} by ${who}`,
       make("span", { class: "quiet" }, ` ${several(lines.length, "time")}`)),
     make("p", { class: "sentence" }, when, ...cell("sentence"), ". ",
       make("span", { class: "section" }, ...cell("section"))),
+    bindsView(cell("binds")),
     linesView(lines, session, chosen),
     wordsLegend(name, lines),
     advice.length > 0 ? make("p", {}, "In the node: ", ...advice, ".") : null,
@@ -213,9 +249,21 @@ function rowOf(name, lines, known, session) {
   return session.isJoint && two && !isSame && isPeers ? two : one ?? two;
 }
 
-/** Makes the parts of all rules that are broken: those of level must first. */
-function rulesView(session, chosen) {
+/** Makes the parts of the rules of some lines: those of level must first. */
+function ruleViews(lines, how, session, chosen) {
   const known = rulesOfPage();
-  return byRule(session.broken).map(([name, lines]) =>
-    ruleView(name, lines, rowOf(name, lines, known, session), session, chosen));
+  return byRule(lines).map(([name, of]) =>
+    ruleView(name, of, how, rowOf(name, of, known, session), session, chosen));
+}
+
+/** Makes the parts of all rules that are broken, and then of those that are undecided. */
+function rulesView(session, chosen) {
+  const { broken, undecided } = session;
+  const none = make("p", { class: "quiet" }, "None of the rules that are judged here is broken.");
+  const open = make("p", { class: "quiet undecided" },
+    "One recording alone does not show whether these rules are broken:");
+  return [
+    ...(broken.length > 0 ? ruleViews(broken, "broken", session, chosen) : [none]),
+    ...(undecided.length > 0 ? [open, ...ruleViews(undecided, "perhaps broken", session, chosen)] : []),
+  ];
 }

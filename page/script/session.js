@@ -118,6 +118,17 @@ class Side {
     return init ? valuesOf(init.words) : null;
   }
 
+  /**
+   * Whether the recording has the beginning of its session. If that is missing, `tcpclkit-resync`
+   * writes a SESS_INIT with zeros and no node ID.
+   */
+  get isBegun() {
+    const { init } = this;
+    const numbers = ["keepalive", "segment-mru", "transfer-mru", "items"];
+    const isMade = init !== null && !init.node && numbers.every((it) => Number(init[it]) === 0);
+    return this.messages[0]?.kind === "contact" && !isMade;
+  }
+
   /** The node ID of the first SESS_INIT, or null. */
   get node() {
     return this.init?.node || null;
@@ -135,11 +146,20 @@ class Side {
   }
 }
 
-/** A session: one side or both. */
+// The rules of `check` that `tcpclkit-check-session` leaves out or judges otherwise: if it has both
+// recordings, and for a recording without its beginning. docs/SESSIONS.md says when
+const OF_BOTH = ["interleaved", "unfinished", "ack-length", "answer-order"];
+const OF_BEGINNING = ["transfer-id-order", "answer-order", "keepalive", "order"];
+
+/**
+ * A session: one side or both. It is joint if its lines are of `tcpclkit-check-session`. If they are of
+ * `check` for each of two recordings, some rules are undecided.
+ */
 class Session {
   constructor(sides) {
     this.sides = sides;
     this.broken = [];
+    this.undecided = [];
     this.isJoint = false;
     this.notes = [];
   }
@@ -171,19 +191,23 @@ class Session {
       const broken = brokenOf(line, side?.name);
       broken.of = this.sides.find((it) => it.name === broken.side);
       broken.message = broken.of.messageAt(broken.offset);
-      this.broken.push(broken);
-    }
-  }
-
-  /** Ties each broken rule to the transfer that it is about, which may be the other side's. */
-  tieRules() {
-    for (const broken of this.broken) {
       broken.transfer = this.transferOf(broken);
-      broken.transfer?.broken.push(broken);
+      if (this.isUndecided(broken)) {
+        this.undecided.push(broken);
+      } else {
+        this.broken.push(broken);
+        broken.transfer?.broken.push(broken);
+      }
     }
   }
 
-  /** Returns the transfer that a broken rule is about, or null. */
+  /** Whether `tcpclkit-check-session` may leave out a line of `check`, or judge it otherwise. */
+  isUndecided({ of, rule }) {
+    const isOfTwo = this.sides.length > 1 && !this.isJoint;
+    return isOfTwo && (OF_BOTH.includes(rule) || (!of.isBegun && OF_BEGINNING.includes(rule)));
+  }
+
+  /** Returns the transfer that a broken rule is about, which may be the other side's, or null. */
   transferOf({ of, message, words }) {
     const other = this.other(of);
     const { id, "peer-at": at } = valuesOf(words);

@@ -26,12 +26,12 @@ class View {
     document.title = `${session.sides.map((it) => it.file).join(", ")} - tcpclkit`;
     element("verdict").replaceChildren(...verdictView(session));
     element("sides").replaceChildren(...session.sides.map(sideView),
-      ...[agreedText(session), ...session.notes].filter(Boolean)
+      ...[agreedText(session), leftOutView(session), ...session.notes].filter(Boolean)
         .map((it) => make("p", { class: "note" }, it)));
     element("numbers").replaceChildren(...numbersView(session));
     this.legend();
     this.timeline = new Timeline(element("timeline"), session, (it) => this.showTransfer(it));
-    this.rules();
+    element("broken").replaceChildren(...rulesView(session, this.chosen));
     this.transfers();
     this.messages();
     element("view").hidden = false;
@@ -58,12 +58,6 @@ class View {
       ...kinds.map((it) => make("span", {}, swatch("", ...shapesOf(it, box)), ` ${JUDGEMENTS[it]}`)),
       ...LEGEND.filter(([message]) => message === "" || sent.has(message)).map(([, kind, name, d]) =>
         make("span", {}, swatch(kind, draw("path", { d })), ` ${name}`)));
-  }
-
-  rules() {
-    const views = rulesView(this.session, this.chosen);
-    const none = make("p", { class: "quiet" }, "None of the rules that are judged here is broken.");
-    element("broken").replaceChildren(...(views.length > 0 ? views : [none]));
   }
 
   transfers() {

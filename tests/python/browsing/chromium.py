@@ -152,6 +152,12 @@ class Browser:
         node = self.call("DOM.querySelector", nodeId=root, selector=selector)["nodeId"]
         self.call("DOM.setFileInputFiles", nodeId=node, files=paths)
 
+    def drag(self, x, y, *paths):
+        """Drags files to a point of the page, and drops them there."""
+        data = {"items": [], "files": paths, "dragOperationsMask": 1}
+        for kind in ("dragEnter", "dragOver", "drop"):
+            self.call("Input.dispatchDragEvent", type=kind, x=x, y=y, data=data)
+
     def key(self, name):
         """Presses a key, by its name or letter."""
         text = {"Enter": "\r"}.get(name, name if len(name) == 1 else "")

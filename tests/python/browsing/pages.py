@@ -1,8 +1,10 @@
 """Looks at pages in the browser: what they show, and how they are used."""
 
 import glob
+import itertools
 import json
 import os
+import shutil
 import subprocess
 from concurrent.futures import ThreadPoolExecutor
 
@@ -25,11 +27,22 @@ SHOWN = 'document.body.classList.contains("shown")'
 NUMBERS = '[...document.querySelectorAll("#numbers > div")].map((it) => it.children[1].textContent)'
 ROWS = 'document.querySelectorAll("#transfers tbody > tr:not(.inside)").length'
 COUNT = 'document.querySelector("#transfers [role=status]").textContent'
+# The lines of the rules that are broken, as the page counts them
+BROKEN = 'tcpclkit.session().broken.map((it) => `${it.side} ${it.offset} ${it.level} ${it.rule} ${it.words}`.trim())'
+# The rules of `check` that check-session judges otherwise, and those for which it has limits
+OTHERWISE = {"interleaved", "unfinished", "ack-length", "answer-order"}
+LIMITED = {"peer-segment", "peer-transfer"}
 
 
 def ran(*words):
     """Runs a script or the program. Returns its output."""
     return subprocess.run(words, capture_output=True, text=True).stdout
+
+
+def write(path, content):
+    """Writes a file of bytes."""
+    with open(path, "wb") as it:
+        it.write(content)
 
 
 def page_of(path, *words):
@@ -62,22 +75,44 @@ def lines_of(*words):
     return ran(*words).splitlines()
 
 
-def expected(paths):
-    """Returns what a page has to count, by the lines: messages, transfers, good ones, and rules."""
+def judged(*paths):
+    """Returns the lines of the rules that a recording breaks, or that both break."""
+    return lines_of(f"{SCRIPTS}/check-session", "--tcpclkit", PROGRAM, *paths) if len(paths) > 1 else lines_of(PROGRAM, "check", *paths)
+
+
+def counts_of(paths):
+    """Returns what a page has to count, by the lines: messages, transfers, good ones and others."""
     listed = [line for it in paths for line in lines_of(PROGRAM, "list", it)]
     reported = [subprocess.run([PROGRAM, "unpack", "--keep-going", it], stdout=subprocess.DEVNULL, stderr=subprocess.PIPE, text=True).stderr
                 for it in paths]
     good = sum(line.startswith("transfer ") and " good " in line for text in reported for line in text.splitlines())
     begun = sum(" xfer-segment " in line and int(line.split("flags=")[1][:2], 16) & 2 > 0 for line in listed)
     messages = sum(" contact " not in line for line in listed)
-    rules = lines_of(f"{SCRIPTS}/check-session", "--tcpclkit", PROGRAM, *paths) if len(paths) > 1 else lines_of(PROGRAM, "check", *paths)
-    return [f"{it:,}" for it in (messages, begun, good, begun - good, len(rules))]
+    return [f"{it:,}" for it in (messages, begun, good, begun - good)]
+
+
+def expected(paths):
+    """Returns these counts, and how many lines of rules there are."""
+    return [*counts_of(paths), f"{len(judged(*paths)):,}"]
 
 
 def shown(browser):
     """Returns the same of the page that is open."""
     numbers = browser.value(NUMBERS)
     return [*numbers[:4], numbers[7]]
+
+
+def rules_of_dropped(paths):
+    """Returns the lines that the page of dropped recordings must have, and those that it may have.
+
+    Of two recordings, it may have those that check-session writes too.
+    """
+    alone = {f"{side} {line}" for side, path in zip("ab", paths) for line in judged(path)}
+    if len(paths) == 1:
+        return alone, alone
+    both = set(judged(*paths))
+    rule = {line: line.split(" ")[3] for line in alone | both}
+    return {it for it in alone if rule[it] not in OTHERWISE} | {it for it in both if rule[it] in LIMITED}, both
 
 
 def seconds_of(browser, path):
@@ -107,16 +142,21 @@ def each_example(browser, folder):
 
 def each_dropped(browser, _):
     """Drops each example on the page with the module. The answers are those of tcpclkit-pair."""
-    wrong = []
+    wrong, accused = [], []
     for paths in recordings():
         drop(browser, *paths)
-        numbers = shown(browser)[:4]
+        *numbers, count = shown(browser)
+        wanted = counts_of(paths)
+        rules, (least, most) = browser.value(BROKEN), rules_of_dropped(paths)
+        if not least <= set(rules) <= most or count != f"{len(rules):,}":
+            accused.append((paths, rules, least, most, count))
         answers = browser.value("tcpclkit.session().sides.map((it) => tcpclkit.pairLines(it))") if len(paths) > 1 else []
         both = [paths, paths[::-1]] if len(paths) > 1 else []
         paired = [ran(f"{SCRIPTS}/pair", "--tcpclkit", PROGRAM, *it) for it in both]
-        if numbers != expected(paths)[:4] or answers != paired or browser.errors:
-            wrong.append((paths, numbers, expected(paths), answers, paired, browser.errors))
+        if numbers != wanted or answers != paired or browser.errors:
+            wrong.append((paths, numbers, wanted, answers, paired, browser.errors))
     yield "examples that are dropped: numbers and answers", [], wrong[:1]
+    yield "examples that are dropped: each line of two recordings is one of check-session", [], accused[:1]
 
 
 def session(browser, folder):
@@ -157,7 +197,7 @@ def session(browser, folder):
     yield "Escape closes the bytes", True, browser.value('document.getElementById("chosen").hidden')
     rule = '[...document.querySelectorAll("#broken .rule")].find((it) => it.textContent.includes("ack-unknown")).textContent'
     text = browser.value(rule)
-    yield "a rule has its sentence and its section", (True, True), ("no segment of Q has" in text, "5.1.2" in text)
+    yield "a rule has its sentence and its section", (True, True), ("no segment of Q carries" in text, "5.1.2" in text)
     yield "no error on the console", [], browser.errors
 
 
@@ -169,8 +209,7 @@ def many(browser, folder):
     )]
     paths = [f"{folder}/many-{it}.tcpcl" for it in "ab"]
     for path, content in zip(paths, sides):
-        with open(path, "wb") as it:
-            it.write(content)
+        write(path, content)
     page = f"{folder}/many.html"
     page_of(page, *paths)
     size = os.path.getsize(page)
@@ -217,8 +256,7 @@ def hostile(browser, folder):
     node = b"<script>hostile = 1</script><img src=x onerror='hostile = 1'>&lt;" + bytes(range(256))
     name = b"<img src=x onerror='hostile = 1'>&amp;\"-a.tcpcl".decode()
     path, page = f"{folder}/{name}", f"{folder}/hostile.html"
-    with open(path, "wb") as it:
-        it.write(make.CONTACT + make.sess_init(node=node) + make.xfer_segment(make.START | make.END, 0, hostile_bundle()))
+    write(path, make.CONTACT + make.sess_init(node=node) + make.xfer_segment(make.START | make.END, 0, hostile_bundle()))
     text = ran(PROGRAM, "list", path).split("node=")[1].split(" ")[0]
     page_of(page, path)
     for kind, look in (("by the program", lambda: show(browser, page)), ("by the module", lambda: drop(browser, path))):
@@ -246,8 +284,8 @@ def without_script(browser, folder):
     browser.open(path)
     text = browser.value('document.getElementById("lines").innerText')
     browser.call("Emulation.setScriptExecutionDisabled", value=False)
-    wanted = [*lines_of(PROGRAM, "list", f"{EXAMPLES}/session-a.tcpcl"),
-              *lines_of(f"{SCRIPTS}/check-session", "--tcpclkit", PROGRAM, f"{EXAMPLES}/session-a.tcpcl", f"{EXAMPLES}/session-b.tcpcl")]
+    paths = [f"{EXAMPLES}/session-{it}.tcpcl" for it in "ab"]
+    wanted = [*lines_of(PROGRAM, "list", paths[0]), *judged(*paths)]
     yield "without script, the lines are shown", [], [it for it in wanted if it not in text]
 
 
@@ -263,4 +301,40 @@ def refused(browser, _):
     yield "three recordings are refused", True, "two sides" in browser.value(complaint)
 
 
-PARTS = [session, each_example, each_dropped, many, large, hostile, without_script, refused]
+def passed_over(browser, folder):
+    """All files of a folder of tcpclkit-capture: those that are no recordings are passed over."""
+    shown_files = "tcpclkit.session().sides.map((it) => it.file)"
+    notes = '[...document.querySelectorAll("#sides > .note")].map((it) => it.textContent).filter((it) => it.startsWith("Passed over"))'
+    at = f"{folder}/captured"
+    os.mkdir(at)
+    for side, end in itertools.product("ab", ("tcpcl", "times")):
+        shutil.copy(f"{PAIRS}/rule-idle-{side}.{end}", f"{at}/0000-{side}.{end}")
+    shutil.copy(f"{EXAMPLES}/session.pcap", at)
+    for name in ("0000.html", "streams"):
+        write(f"{at}/{name}", b"stream 0\n")
+    drop(browser, *glob.glob(f"{at}/*"))
+    yield "the recordings of a folder are shown", ["0000-a.tcpcl", "0000-b.tcpcl"], browser.value(shown_files)
+    yield "with their times", True, browser.value('document.getElementById("timeline").textContent.includes("Seconds after")')
+    passed = ["Passed over, as empty or as no recording: 0000.html, session.pcap and streams."]
+    yield "what is passed over is named", (passed, ""), (browser.value(notes), browser.value('document.getElementById("complaint").textContent'))
+    browser.value('document.getElementById("exchange").click()')
+    browser.wait(f'{shown_files}[0] === "0000-b.tcpcl"')
+    yield "and still is when the sides are exchanged", passed, browser.value(notes)
+    write(f"{at}/0000-b.tcpcl", b"")
+    drop(browser, f"{at}/0000-a.tcpcl", f"{at}/0000-b.tcpcl")
+    yield "an empty side is passed over", (["0000-a.tcpcl"], 1), (browser.value(shown_files), len(browser.value(notes)))
+    for name, side in (("one", "a"), ("two.log", "b")):
+        shutil.copy(f"{EXAMPLES}/session-{side}.tcpcl", f"{at}/{name}")
+    drop(browser, f"{at}/one", f"{at}/streams", f"{at}/two.log")
+    yield "a recording may have any name", ["one", "two.log"], browser.value(shown_files)
+    drop(browser, f"{at}/streams")
+    title = browser.value('document.getElementById("verdict").textContent')
+    yield "a file alone that is no recording is read as one", ("The recording of a cannot be read from byte 0 on: not a contact header", []), (title, browser.value(notes))
+    browser.drag(300, 150, at)
+    complaint = 'document.getElementById("complaint").textContent'
+    browser.wait(complaint)
+    yield "a folder itself is refused, with what to do", "This failed: captured cannot be read. If it is a folder, drop the files in it.", browser.value(complaint)
+    yield "no error on the console", [], browser.errors
+
+
+PARTS = [session, each_example, each_dropped, many, large, hostile, without_script, refused, passed_over]

@@ -1,14 +1,21 @@
 """What a reader of a page learns: who broke which rule, about which transfer, and in which order."""
 
 import csv
+import re
+import struct
 from concurrent.futures import ThreadPoolExecutor
 
-from .pages import EXAMPLES, PAIRS, PROGRAM, SCRIPTS, WORKERS, lines_of, page_of, show
+import make
+
+from .pages import BROKEN, EXAMPLES, OTHERWISE, PAIRS, WORKERS, drop, judged, page_of, show, write
 
 TITLE = 'document.getElementById("verdict").textContent'
 SIDES = 'document.getElementById("sides").innerText'
 TIMELINE = 'document.getElementById("timeline").textContent'
-# How many rules of a side the title names if it breaks more
+# Why the title of dropped recordings leaves out some rules, and what is said of them below
+NOTES = '[...document.querySelectorAll("#sides > .note")].map((it) => it.textContent)'
+UNDECIDED = '[...document.querySelectorAll("#broken > .undecided ~ .rule h3")].map((it) => it.textContent)'
+# How many rules of a side the title names if it breaks more, and how many of its bundles
 NAMED = 3
 
 # The messages that lie before the message that they answer: their sides and offsets
@@ -56,14 +63,15 @@ def rules_of(row):
 
 
 def named(title, side):
-    """Returns the rules that a title names for a side, and how many others it counts."""
-    for part in title.split("; "):
-        before, is_it, names = part[0].lower() + part[1:], f"side {side} breaks ", []
-        if before.startswith(is_it):
-            names = before[len(is_it):].replace(" and ", ", ").split(", ")
-            more = [it for it in names if " more rule" in it]
-            return set(names) - set(more), int(more[0].split(" ")[0]) if more else 0
-    return set(), 0
+    """Returns the rules that a title names for a side and its bundles, and how many others it counts."""
+    names, more = set(), 0
+    for found in re.finditer(rf"side {side} breaks? ([^;]*)", title, re.IGNORECASE):
+        for it in found[1].replace(" and ", ", ").split(", "):
+            if " more rule" in it:
+                more += int(it.split(" ")[0])
+            else:
+                names.add(it)
+    return names, more
 
 
 def is_named(title, rules):
@@ -137,8 +145,7 @@ def ends(browser, folder):
         "start": (content[:38], "These recordings show nothing wrong"),
     }
     for name, (begin, title) in titles.items():
-        with open(f"{folder}/{name}.tcpcl", "wb") as it:
-            it.write(begin)
+        write(f"{folder}/{name}.tcpcl", begin)
         page_of(f"{folder}/{name}.html", f"{folder}/{name}.tcpcl")
         show(browser, f"{folder}/{name}.html")
         yield f"the title of a recording: {name}", title, browser.value(TITLE)
@@ -160,9 +167,71 @@ def rule_links(browser, folder):
     browser.value('[...document.querySelectorAll("#broken button.link")].find((it) => it.textContent.startsWith("transfer ")).click()')
     yield "a transfer of a rule is unfolded", 1, browser.value('document.querySelectorAll("#transfers tr.inside").length')
     shown = browser.value('document.querySelector("#transfers tr.inside").innerText')
-    yield "it shows the rule with its side and its message", True, "broken by a" in shown and "xfer-segment" in shown
-    counted = len(lines_of(f"{SCRIPTS}/check-session", "--tcpclkit", PROGRAM, f"{EXAMPLES}/session-a.tcpcl", f"{EXAMPLES}/session-b.tcpcl"))
+    yield "it shows the rule with its side and its message", True, "broken by this bundle of a" in shown and "xfer-segment" in shown
+    counted = len(judged(*(f"{EXAMPLES}/session-{it}.tcpcl" for it in "ab")))
     yield "each line of a rule is shown", counted, browser.value('document.querySelectorAll("#broken li").length')
 
 
-PARTS = [titles, pages_by_name, ends, rule_links]
+HEAD, BOTH = make.CONTACT + make.sess_init(), make.START | make.END
+
+
+def dropped(browser, folder, *contents):
+    """Drops recordings with these contents, and returns the title."""
+    paths = [f"{folder}/dropped-{side}.tcpcl" for side, _ in zip("ab", contents)]
+    for path, content in zip(paths, contents):
+        write(path, content)
+    drop(browser, *paths)
+    return browser.value(TITLE)
+
+
+def undecided(browser, folder):
+    """What both recordings decide is not in the title of both, but in that of one."""
+    size = len(make.BUNDLE)
+    sides = [
+        HEAD + make.xfer_segment(make.START, 0, make.BUNDLE[:10]) + make.xfer_segment(BOTH, 1, make.BUNDLE)
+        + make.xfer_segment(make.START, 2, make.BUNDLE[:10]),
+        HEAD + make.xfer_ack(make.START, 0, 10) + make.xfer_ack(0, 0, 5) + 2 * make.xfer_ack(BOTH, 1, size),
+    ]
+    title = dropped(browser, folder, *sides)
+    yield "the title of two recordings leaves out what both decide", set(), OTHERWISE & (named(title, "a")[0] | named(title, "b")[0])
+    why = "The title leaves out interleaved, unfinished, ack-length and answer-order: one recording alone does not show whether they are broken."
+    yield "and says why", f"This page judges each side alone. tcpclkit-page judges both together. {why}", browser.value(NOTES)[-1]
+    wanted = ["should interleaved perhaps broken by a 1 time", "should unfinished perhaps broken by a 1 time",
+              "should ack-length perhaps broken by b 1 time", "should answer-order perhaps broken by b 1 time"]
+    yield "these rules come last", wanted, browser.value(UNDECIDED)
+    for content, rules in zip(sides, ({"interleaved", "unfinished"}, {"ack-length", "answer-order"})):
+        names = named(dropped(browser, folder, content), "a")[0]
+        yield f"the title of one recording names {' and '.join(sorted(rules))}", rules, names & OTHERWISE
+        yield "and leaves nothing out", [], [*browser.value(NOTES), *browser.value(UNDECIDED)]
+    yield "no error on the console", [], browser.errors
+
+
+def late(browser, folder):
+    """A recording that tcpclkit-resync made sets no limits, and the order of its IDs is undecided."""
+    made = make.CONTACT + struct.pack(">BHQQHI", 0x07, 0, 0, 0, 0, 0)
+    late_side = made + make.xfer_segment(BOTH, 7, make.BUNDLE)
+    whole = HEAD + make.xfer_segment(BOTH, 0, make.BUNDLE) + make.xfer_ack(BOTH, 7, len(make.BUNDLE))
+    for sides, name in (((late_side, whole), "a"), ((whole, late_side), "b")):
+        dropped(browser, folder, *sides)
+        broken = browser.value(BROKEN)
+        yield f"without a beginning, {name} sets no limits", [], [it for it in broken if " peer-" in it]
+        yield f"and the order of the IDs of {name} is undecided", [f"should transfer-id-order perhaps broken by {name} 1 time"], browser.value(UNDECIDED)
+        both = judged(*(f"{folder}/dropped-{it}.tcpcl" for it in "ab"))
+        yield f"without the beginning of {name}, the lines are those of check-session", set(both), set(broken)
+    yield "no error on the console", [], browser.errors
+
+
+def of_bundles(browser, folder):
+    """A rule of bundles is broken by a bundle. Rules about the length of a transfer are the sender's."""
+    longer, alone = make.length_item(len(make.BUNDLE) + 1), "A bundle of side a breaks primary-check and age"
+    whole = make.xfer_segment(BOTH, 0, make.BUNDLE)
+    yield "the title of a bundle", alone, dropped(browser, folder, HEAD + whole)
+    yield "the part of its rule", "must primary-check broken by bundles of a 1 time", browser.value('document.querySelector("#broken-primary-check h3").textContent')
+    yield "the title of bundles", "Bundles of side a break primary-check and age", dropped(browser, folder, HEAD + whole + make.xfer_segment(BOTH, 1, make.BUNDLE))
+    lengths = make.xfer_segment(BOTH, 0, make.BUNDLE, longer) + make.xfer_segment(make.START, 1, make.BUNDLE[:10])
+    wanted = f"Side a breaks length-differs, length-of-one-segment and unfinished; a{alone[1:]}; 2 transfers of a are not good"
+    yield "the title of a side and its bundle", wanted, dropped(browser, folder, HEAD + lengths)
+    yield "no error on the console", [], browser.errors
+
+
+PARTS = [titles, pages_by_name, ends, rule_links, undecided, late, of_bundles]
