@@ -1,7 +1,7 @@
 """The rules of the RFCs that the sides of the sessions of a capture break."""
 
-from session_rules import judging
-from session_rules.captured import Captured
+from both_sides import judging
+from both_sides.captured import Captured
 
 from .messages import MAGIC
 from .running import LOST

@@ -3,7 +3,7 @@
 from array import array
 from bisect import bisect_left, bisect_right
 
-from session_rules.sides import SLACK
+from both_sides.sides import SLACK
 
 # The count of bytes that no captured packet has
 UNKNOWN = 1 << 62

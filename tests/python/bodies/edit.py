@@ -137,5 +137,5 @@ def edits_in(crate, folder):
 
 def edits_of(crate, top):
     """Returns all edits of a crate: those that `rt ci` tries too, and the others."""
-    folders = [f"{top}/crates/{crate}/must-fail", f"{top}/tests/data/edits/{crate}"]
+    folders = [f"{top}/crates/{crate}/must-fail", f"{top}/tests/data/wrong-bodies/{crate}"]
     return [edit for folder in folders for edit in edits_in(crate, folder)]

@@ -18,8 +18,8 @@ from rows.sessions import (
     A, ACKED, B, HEADER, REPLIED, RULES, SIZE, TERM, acked, bare, bundle, first, init, last, pair, refused,
     whole,
 )
-from session_rules import judging
-from session_rules.captured import Captured
+from both_sides import judging
+from both_sides.captured import Captured
 
 FOLDER = f"{TOP}/examples/faults/sessions"
 COUNT, SECONDS = 100000, 5
@@ -92,8 +92,8 @@ def judged(at, it, connection=(), **patched):
 
 @contextlib.contextmanager
 def bounded(name, constant, value):
-    """Gives a constant of a module of session_rules another value."""
-    module = sys.modules[f"session_rules.{name}"]
+    """Gives a constant of a module of both_sides another value."""
+    module = sys.modules[f"both_sides.{name}"]
     usual = getattr(module, constant)
     setattr(module, constant, value)
     try:

@@ -212,7 +212,7 @@ def install(at, *names):
     os.makedirs(f"{at}/bin", exist_ok=True)
     for name in names:
         shutil.copy(f"{TOP}/scripts/{name}", f"{at}/bin/tcpclkit-{name}")
-    for package in ("tcpclkit_scripts", "session_rules"):
+    for package in ("tcpclkit_scripts", "both_sides"):
         os.makedirs(f"{at}/share/tcpclkit/python/{package}", exist_ok=True)
         for path in glob.glob(f"{TOP}/scripts/{package}/*.py"):
             shutil.copy(path, f"{at}/share/tcpclkit/python/{package}")

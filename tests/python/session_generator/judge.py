@@ -1,4 +1,4 @@
-"""What scripts/session_rules says of two recordings, in this process.
+"""What scripts/both_sides says of two recordings, in this process.
 
 It starts `tcpclkit list` and `check` for each recording. Here it may get what the model of
 tests/python/model says instead, which takes no process. Everything else is its own code.
@@ -15,7 +15,7 @@ from model import checking, wire
 TOP = os.path.dirname(os.path.dirname(os.path.dirname(os.path.dirname(os.path.abspath(__file__)))))
 sys.path.append(f"{TOP}/scripts")
 
-from session_rules import facts, judging
+from both_sides import facts, judging
 
 PROGRAM = os.environ.get("TCPCLKIT", f"{TOP}/crates/tcpclkit/out/tcpclkit")
 FOLDER = "/dev/shm" if os.path.isdir("/dev/shm") else None
