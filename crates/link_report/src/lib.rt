@@ -21,7 +21,8 @@
 //! report.
 //!
 //! A crate with lines of its own makes them of the pieces that the `write_` calls put into a page.
-//! Each of these calls takes the index where its piece begins and returns the index after it.
+//! Each of these calls takes the index where its piece begins and returns the index after it. The
+//! `put_` calls append such pieces to a [`Line`].
 //!
 //! [`reason_name`] is the name of a reason alone, as the lines have it.
 #![tactic(auto)]
@@ -46,6 +47,6 @@ pub use kept_digits::KeptDigits;
 pub use message::{MessageText, contact_line, message_line};
 pub use packed::{PackedEntry, PackedText, PackedView, packed_line, packed_view_line};
 pub use page::{write_bytes, write_decimal, write_hex2, write_number, write_text};
-pub use put::{LINE_MAX, Line, put_text};
+pub use put::{LINE_MAX, Line, put_decimal, put_escaped, put_hex2, put_hex4, put_text};
 pub use reason::{ReasonOf, reason_name};
 pub use transfer::{TransferEntry, TransferText, TransferView, transfer_line, transfer_view_line};

@@ -1,6 +1,9 @@
 //! The lines of messages and faults, and the pieces of text that they are made of.
 
-use link_report::{Fault, KeptDigits, Line, MessageText, contact_line, fault_line, message_line};
+use link_report::{
+    Fault, KeptDigits, Line, MessageText, contact_line, fault_line, message_line, put_decimal,
+    put_escaped, put_hex2, put_hex4, put_text,
+};
 use link_transfer::OrderFault;
 use link_wire::{
     Contact, Fields, Item, Items, Message, MessageBuffer, NodeId, SegmentHead, TEXT_MAX, Text,
@@ -203,6 +206,53 @@ fn pieces_of_text(rt: HostRuntime) {
         "18446744073709551615 sess-init keepalive=60 segment-mru=65536 transfer-mru=1048576 \
         node=!~\\x20\\x5c\\x7f\\x00a items=1 item=0a:0fe9:0\n",
     );
+}
+
+/// A call that appends a piece to a line, and its argument.
+enum Piece {
+    Decimal(u64),
+    Hex2(u8),
+    Hex4(u16),
+    /// At most 8 bytes.
+    Escaped(&'static [u8]),
+}
+
+/// Pieces, and the line of each after `a `.
+static PIECES: [(Piece, &str); 14] = [
+    (Piece::Decimal(0), "a 0"),
+    (Piece::Decimal(9), "a 9"),
+    (Piece::Decimal(10), "a 10"),
+    (Piece::Decimal(u64::MAX), "a 18446744073709551615"),
+    (Piece::Hex2(0x00), "a 00"),
+    (Piece::Hex2(0x1f), "a 1f"),
+    (Piece::Hex2(0xff), "a ff"),
+    (Piece::Hex4(0x0000), "a 0000"),
+    (Piece::Hex4(0x012e), "a 012e"),
+    (Piece::Hex4(0xffff), "a ffff"),
+    (Piece::Escaped(b""), "a "),
+    (Piece::Escaped(b"!az~"), "a !az~"),
+    (Piece::Escaped(b"\\"), "a \\x5c"),
+    (Piece::Escaped(b"\x20[\x7f"), "a \\x20[\\x7f"),
+];
+
+/// Checks the line of a piece that is appended to `a `.
+fn appends(rt: &impl Abort, piece: &Piece, want: &str) {
+    let mut line = Line::new();
+    put_text(&mut line, "a ");
+    match *piece {
+        Piece::Decimal(number) => put_decimal(&mut line, number),
+        Piece::Hex2(byte) => put_hex2(&mut line, byte),
+        Piece::Hex4(number) => put_hex4(&mut line, number),
+        Piece::Escaped(bytes) => put_escaped(&mut line, &bytes[..bytes.len().min(8)]),
+    }
+    is_text(rt, line.as_slice(), want);
+}
+
+#[test]
+fn appended_pieces(rt: HostRuntime) {
+    for (piece, want) in &PIECES {
+        appends(&rt, piece, want);
+    }
 }
 
 #[test]
