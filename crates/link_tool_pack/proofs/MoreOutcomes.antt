@@ -3,8 +3,8 @@ use Rattle.std.proofs.Common.{◌≡◌, ℕ, zero, suc, ◌+◌, ◌<◌, ◌%�
 use Rattle.std.proofs.Math.Path.{fun_ext}
 use Rattle.std.proofs.lemmas.Nat.{field_of}
 use Rattle.std.specs.Int.{byte_at}
-use Rattle.link_wire.specs.Spelled.{be}
 use Rattle.link_wire.specs.{Codes.{xfer_segment, is_start}, Spelling.{list_bytes, segment_head_bytes}}
+use Rattle.link_writing.specs.Numbers.{be}
 use Rattle.link_transfer.specs.Chunks.{chunk_at}
 use Rattle.link_run.specs.Made.{tool_of}
 use Rattle.link_run.specs.Run.{◌then◌, no_texts}

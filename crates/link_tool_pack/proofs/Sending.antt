@@ -10,8 +10,9 @@ use Rattle.link_transfer.proofs.Chunking.{first_chunks-zero}
 use Rattle.link_transfer.proofs.Due.{fits_back, given_within, due_more}
 use Rattle.link_tool_pack.specs.Segments.{segment_bytes, BundleToCut, cut_at, segments_from, segments_of, segments_left, all_given, going, flags_of, sending_of}
 use Rattle.std.proofs.{Math.Seq.take-length, lemmas.Option.cond_some}
-use Rattle.link_wire.specs.{Device.Output, Spelled.be, Spelling.{list_bytes, segment_head_bytes}}
+use Rattle.link_wire.specs.{Device.Output, Spelling.{list_bytes, segment_head_bytes}}
 use Rattle.link_wire.specs.declared.IoFault.{IoFault}
+use Rattle.link_writing.specs.Numbers.{be}
 use Rattle.link_transfer.specs.{Cutter.{IsCutterAt, has_ready_chunk}, declared.cutter.Cutter.Cutter}
 use Rattle.link_transfer.proofs.{Giving.next_cut-none, Steps.next_cut-is}
 use Rattle.link_run.specs.Writers.{on_output, Writes, FailedWrite, AfterWrite}

@@ -1,10 +1,11 @@
 //! Segments as texts, which are made where the output has room for them.
 
 ghost use Rattle.std.specs.Prelude.{◌≡◌, ◌+◌, ◌≤◌, ◌++◌, length, take};
-ghost use Rattle.link_wire.specs.Spelled.{be};
 ghost use Rattle.link_wire.specs.Spelling.{list_bytes, segment_head_bytes};
+ghost use Rattle.link_writing.specs.Numbers.{be};
 ghost use Rattle.link_tool_pack.specs.Segments.{flags_of};
 
+use byteorder::{BigEndian, ByteOrder};
 use link_transfer::Cut;
 use link_wire::{END, START, Text, copy_into};
 
@@ -84,7 +85,9 @@ fn put_number(page: &mut [u8], at: usize, number: u64) -> usize
     ensures end { result ≡ at + 8 }
     ensures size { length page.new ≡ length page.old }
 {
-    copy_into(page, at, &number.to_be_bytes())
+    let mut bytes = [0; 8];
+    BigEndian::write_u64(&mut bytes, number);
+    copy_into(page, at, &bytes)
 }
 
 /// Writes the extension list of a first segment. If the list announces the length, it has 17 bytes.

@@ -10,7 +10,7 @@ use Rattle.byteorder.specs.{Endian.{big_number, big_from}, Numbers.{big_from-con
 use Rattle.link_io.specs.Bytes.{IsByte, AreBytes}
 use Rattle.link_wire.specs.Part.{Part, ◌>>=◌, bytes_at, number_at}
 use Rattle.link_wire.proofs.FieldReads.{bytes_gone, same_part, both_read}
-use Rattle.link_wire.specs.Spelled.{BytesProperty, be, U8, U16, U64, These, ContactSpelled, NodeSpelled, ItemHeadSpelled, ValueSpelled, ItemSpelled, ItemsSpelled, ListSpelled, SegmentItemsSpelled, HeadSpelled}
+use Rattle.link_wire.specs.Spelled.{BytesProperty, U8, U16, U64, These, ContactSpelled, NodeSpelled, ItemHeadSpelled, ValueSpelled, ItemSpelled, ItemsSpelled, ListSpelled, SegmentItemsSpelled, HeadSpelled}
 use Rattle.link_wire.proofs.Sound.{both, last, ItemsFilling, has_total_size, length_item_head}
 use Rattle.link_wire.specs.declared.message.{ListOf.ListOf, ListOf.TheVariants.{Session, Transfer}}
 use Rattle.link_wire.specs.{Codes.is_start, Limits.{longest_node, longest_list, most_items}}
@@ -19,6 +19,7 @@ use Rattle.link_wire.specs.declared.fault.WireFault.{WireFault}
 use Rattle.link_wire.specs.declared.fault.WireFault.TheVariants.{BadMagic, BadVersion, UnknownType, NodeIdTooLong, ListTooLong, TooManyItems, ItemsOverrun}
 use Rattle.link_wire.specs.declared.{message.Item.Item, list.ItemHead.ItemHead}
 use Rattle.link_wire.specs.declared.message.Message.TheVariants.{SessInit, Segment, Ack, Refuse, Keepalive, SessTerm, MsgReject}
+use Rattle.link_writing.specs.Numbers.{be}
 
 AreBytes-before : (xs ys : List ℕ) → AreBytes (xs ++ ys) → AreBytes xs
 AreBytes-before xs ys are = subst AreBytes (take-append_seam xs ys) (All-take IsByte (length xs) (xs ++ ys) are)

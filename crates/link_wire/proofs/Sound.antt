@@ -6,12 +6,13 @@ use Rattle.byteorder.specs.Endian.{big_number}
 use Rattle.byteorder.specs.Numbers.{big_number-reads_back, length-bytes_high_first}
 use Rattle.link_wire.specs.Part.{Part, ◌>>=◌, bytes_at, number_at}
 use Rattle.link_wire.proofs.FieldReads.{bytes_at-there, same_part}
-use Rattle.link_wire.specs.Spelled.{BytesProperty, be, U32, These, ◌⨾◌, ContactSpelled, NodeSpelled, ItemHeadSpelled, ValueSpelled, ItemsSpelled, ListSpelled, SegmentItemsSpelled, HeadSpelled, Spelled}
+use Rattle.link_wire.specs.Spelled.{BytesProperty, U32, These, ◌⨾◌, ContactSpelled, NodeSpelled, ItemHeadSpelled, ValueSpelled, ItemsSpelled, ListSpelled, SegmentItemsSpelled, HeadSpelled, Spelled}
 use Rattle.link_wire.specs.declared.message.{ListOf.ListOf, ListOf.TheVariants.{Session, Transfer}}
 use Rattle.link_wire.specs.{Codes.is_start, Limits.{longest_node, longest_list, most_items}}
 use Rattle.link_wire.specs.Message.{contact_at, skipped_at, total_at, item_head_at, items_at, items_of, list_at, node_bytes_at, node_at, segment_items_at, segment_at, ack_at, refuse_at, sess_term_at, msg_reject_at, sess_init_at, fields_at, message_at, is_total_length, data_length}
 use Rattle.link_wire.specs.declared.message.{Contact.Contact, Item.Item, Message.Message}
 use Rattle.link_wire.specs.declared.message.Message.TheVariants.{SessInit, Segment, Ack, Refuse, Keepalive, SessTerm, MsgReject}
+use Rattle.link_writing.specs.Numbers.{be}
 
 -- the length of a spelling that has two parts
 pub length_parts : {first second : BytesProperty} (bytes : List ℕ) (is : (first ⨾ second) bytes)

@@ -7,11 +7,12 @@ use Rattle.std.proofs.Math.Nat.{mod-lt}
 use Rattle.byteorder.specs.Numbers.{big_number-reads_back}
 use Rattle.link_io.specs.Bytes.{IsByte, AreBytes}
 use Rattle.link_wire.specs.{Codes.is_start, Limits.longest_node}
-use Rattle.link_wire.specs.Spelled.{be, ContactSpelled, ItemSpelled, ItemsSpelled, ListSpelled, SegmentItemsSpelled, HeadSpelled}
+use Rattle.link_wire.specs.Spelled.{ContactSpelled, ItemSpelled, ItemsSpelled, ListSpelled, SegmentItemsSpelled, HeadSpelled}
 use Rattle.link_wire.specs.Spelling.{contact_bytes, sess_init_bytes, total_bytes, announce_bytes, list_bytes, segment_head_bytes, sess_term_bytes, announced, segment_with, sess_init_with}
 use Rattle.link_wire.proofs.Sound.{both}
 use Rattle.link_wire.specs.declared.message.{ListOf.ListOf, ListOf.TheVariants.{Session, Transfer}}
 use Rattle.link_wire.specs.declared.message.Message.TheVariants.{SessTerm}
+use Rattle.link_writing.specs.Numbers.{be}
 
 -- the bytes of a number are bytes
 is_byte_at : (k n : ℕ) → byte_at k n < 256

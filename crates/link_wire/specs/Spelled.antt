@@ -2,7 +2,7 @@
 -- field in written order. Nothing here reads: a list of bytes is a spelling, or it is not.
 use Rattle.std.specs.Prelude.{◌≡◌, ℕ, ◌^◌, ◌<◌, ◌≤◌, Bool, true, false, List, [], ◌∷◌, ◌++◌, length, Option, Some, None, if◌then◌else◌}
 use Rattle.arrayvec.specs.ArrayVec.{ArrayVec}
-use Rattle.byteorder.specs.Endian.{big_bytes, big_number}
+use Rattle.byteorder.specs.Endian.{big_number}
 use Rattle.link_io.specs.Bytes.{AreBytes}
 use Rattle.link_wire.specs.Codes.{tcpcl_version, xfer_segment, xfer_ack, xfer_refuse, keepalive, sess_term, msg_reject, sess_init, is_start, total_size}
 use Rattle.link_wire.specs.Limits.{longest_node, longest_list, most_items}
@@ -11,6 +11,7 @@ use Rattle.link_wire.specs.declared.message.{Contact.Contact, Item.Item, ListOf.
 use Rattle.link_wire.specs.declared.message.ListOf.TheVariants.{Session, Transfer}
 use Rattle.link_wire.specs.declared.message.Message.{Message}
 use Rattle.link_wire.specs.declared.message.Message.TheVariants.{SessInit, Segment, Ack, Refuse, Keepalive, SessTerm, MsgReject}
+use Rattle.link_writing.specs.Numbers.{be}
 
 -- a property of lists of bytes: that they spell something
 abbrev pub BytesProperty : Type 1
@@ -27,10 +28,6 @@ pub record FollowedBy (first second : BytesProperty) (bytes : List ℕ) : Type 0
 infixr 30 ◌⨾◌
 abbrev pub ◌⨾◌ : BytesProperty → BytesProperty → BytesProperty
 (first ⨾ second) bytes = FollowedBy first second bytes
-
--- the `k` bytes whose value is `n`, the most significant first
-abbrev pub be : ℕ → ℕ → List ℕ
-be k n = big_bytes k n
 
 -- unsigned numbers of one, two, four and eight bytes
 abbrev pub U8 : ℕ → BytesProperty

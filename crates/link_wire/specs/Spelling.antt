@@ -2,9 +2,9 @@
 -- extension item that they append is a Transfer Length item without flags.
 use Rattle.std.specs.Prelude.{ℕ, ◌+◌, Bool, true, false, List, [], ◌∷◌, ◌++◌, length, Option, Some, None}
 use Rattle.link_wire.specs.Codes.{tcpcl_version, xfer_segment, sess_term, sess_init, is_start, transfer_length, total_size}
-use Rattle.link_wire.specs.Spelled.{be}
 use Rattle.link_wire.specs.declared.message.{Item.Item, Message.Message}
 use Rattle.link_wire.specs.declared.message.Message.TheVariants.{SessInit, Segment}
+use Rattle.link_writing.specs.Numbers.{be}
 
 -- a contact header (section 4.2): `dtn!`, the version, and the flags
 unfoldable pub contact_bytes : (flags : ℕ) → List ℕ

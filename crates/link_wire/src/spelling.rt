@@ -4,8 +4,9 @@ ghost use Rattle.std.specs.Prelude.{◌≡◌, ◌+◌, ◌^◌, ◌<◌, ◌≤
 ghost use Rattle.link_io.specs.Bytes.{AreBytes};
 ghost use Rattle.arrayvec.specs.ArrayVec.{array_vec_len};
 ghost use Rattle.link_wire.specs.Codes.{is_start};
-ghost use Rattle.link_wire.specs.Spelled.{be, ContactSpelled, HeadSpelled};
+ghost use Rattle.link_wire.specs.Spelled.{ContactSpelled, HeadSpelled};
 ghost use Rattle.link_wire.specs.Spelling.{contact_bytes, sess_init_bytes, total_bytes, announce_bytes, segment_head_bytes, sess_term_bytes, announce_size, segment_head_size, segment_with, sess_init_with};
+ghost use Rattle.link_writing.specs.Numbers.{be};
 
 use crate::codes::{
     ITEM_HEAD, MAGIC, SESS_INIT, SESS_TERM, START, TOTAL_SIZE, TRANSFER_LENGTH, VERSION,
@@ -14,57 +15,13 @@ use crate::codes::{
 use crate::message::Message;
 use arrayvec::ArrayVec;
 use link_tool_option_types::NodeId;
+use link_writing::{put_bytes, put_u8, put_u16, put_u32, put_u64};
 
 /// The size of a [`HeadBuf`], in bytes: the longest SESS_INIT that is written has 1,049.
 pub const HEAD_MAX: usize = 2048;
 
 /// A buffer for the bytes of a contact header and of heads.
 pub type HeadBuf = ArrayVec<u8, HEAD_MAX>;
-
-/// Appends these bytes.
-fn put_bytes(buffer: &mut HeadBuf, bytes: &[u8])
-    requires { array_vec_len buffer.old + length bytes.now ≤ HEAD_MAX }
-    ensures items { buffer.new.items ≡ buffer.old.items ++ bytes.now }
-    ensures len { array_vec_len buffer.new ≡ array_vec_len buffer.old + length bytes.now }
-{
-    buffer.try_extend_from_slice(bytes).unwrap();
-}
-
-/// Appends one byte.
-fn put_u8(buffer: &mut HeadBuf, number: u8)
-    requires { array_vec_len buffer.old + 1 ≤ HEAD_MAX }
-    ensures items { buffer.new.items ≡ buffer.old.items ++ be 1 number }
-    ensures len { array_vec_len buffer.new ≡ array_vec_len buffer.old + 1 }
-{
-    put_bytes(buffer, &number.to_be_bytes());
-}
-
-/// Appends two bytes, big-endian.
-fn put_u16(buffer: &mut HeadBuf, number: u16)
-    requires { array_vec_len buffer.old + 2 ≤ HEAD_MAX }
-    ensures items { buffer.new.items ≡ buffer.old.items ++ be 2 number }
-    ensures len { array_vec_len buffer.new ≡ array_vec_len buffer.old + 2 }
-{
-    put_bytes(buffer, &number.to_be_bytes());
-}
-
-/// Appends four bytes, big-endian.
-fn put_u32(buffer: &mut HeadBuf, number: u32)
-    requires { array_vec_len buffer.old + 4 ≤ HEAD_MAX }
-    ensures items { buffer.new.items ≡ buffer.old.items ++ be 4 number }
-    ensures len { array_vec_len buffer.new ≡ array_vec_len buffer.old + 4 }
-{
-    put_bytes(buffer, &number.to_be_bytes());
-}
-
-/// Appends eight bytes, big-endian.
-fn put_u64(buffer: &mut HeadBuf, number: u64)
-    requires { array_vec_len buffer.old + 8 ≤ HEAD_MAX }
-    ensures items { buffer.new.items ≡ buffer.old.items ++ be 8 number }
-    ensures len { array_vec_len buffer.new ≡ array_vec_len buffer.old + 8 }
-{
-    put_bytes(buffer, &number.to_be_bytes());
-}
 
 /// Appends a contact header of six bytes (RFC 9174 section 4.2).
 ///

@@ -6,12 +6,12 @@ use Rattle.link_wire.proofs.{FieldReads.bytes_at-there, Sound.{both, only_messag
 use Rattle.link_wire.specs.{Codes.is_start, Limits.{longest_node, longest_list}}
 use Rattle.link_wire.specs.Message.{node_at, node_bytes_at, items_of, list_at, segment_items_at, segment_at, sess_init_at, fields_at, message_at}
 use Rattle.link_wire.specs.MessageBuffer.{segment_items}
-use Rattle.link_wire.specs.Spelled.{be}
 use Rattle.link_wire.specs.declared.fault.WireFault.{WireFault}
 use Rattle.link_wire.specs.declared.message.{Item.Item, ListOf.ListOf}
 use Rattle.link_wire.specs.declared.message.ListOf.TheVariants.{Session, Transfer}
 use Rattle.link_wire.specs.declared.message.Fields.TheVariants.{SessInit, Segment, Ack, Refuse, Keepalive, SessTerm, MsgReject}
 use Rattle.link_wire.specs.declared.message.Message.TheVariants as wire
+use Rattle.link_writing.specs.Numbers.{be}
 use Rattle.link_wire_writer.proofs.Readings.{number_there, items_there}
 use Rattle.link_wire_writer.specs.MessageBytes.{node_bytes, list_bytes, segment_list_bytes, message_bytes, are_items, is_empty, is_writable}
 use Rattle.link_wire_writer.specs.ReadsBack.{items_or_none, MessageReadsBack}

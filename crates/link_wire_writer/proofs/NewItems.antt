@@ -7,8 +7,9 @@ use Rattle.link_wire.proofs.{FieldReads.bytes_at-there, Sound.{both, has_total_s
 use Rattle.link_wire.specs.Limits.{longest_list, most_items}
 use Rattle.link_wire.specs.Message.{is_total_length, skipped_at, total_at, items_at, items_of}
 use Rattle.link_wire.specs.Part.{bytes_at, number_at}
-use Rattle.link_wire.specs.Spelled.{be, total_of}
+use Rattle.link_wire.specs.Spelled.{total_of}
 use Rattle.link_wire.specs.declared.message.{Item.Item, ListOf.ListOf}
+use Rattle.link_writing.specs.Numbers.{be}
 use Rattle.link_wire_writer.specs.MessageBytes.{item_bytes}
 use Rattle.link_wire_writer.specs.ReadsBack.{NewItem, ItemFieldsFit, items_bytes, read_item, ItemsReadBack}
 

@@ -7,10 +7,10 @@ use Rattle.link_wire.proofs.{Sound.{has_total_size, only_number}, Within.{taken_
 use Rattle.link_wire.specs.Limits.{most_items}
 use Rattle.link_wire.specs.Message.{is_total_length, skipped_at, total_at, item_head_at, items_at, items_of}
 use Rattle.link_wire.specs.Part.{bytes_at, number_at}
-use Rattle.link_wire.specs.Spelled.{be}
 use Rattle.link_wire.specs.declared.fault.WireFault.TheVariants.{ItemsOverrun}
 use Rattle.link_wire.specs.declared.message.{Item.Item, ListOf.ListOf}
 use Rattle.link_wire.specs.declared.list.ItemHead.{ItemHead}
+use Rattle.link_writing.specs.Numbers.{be}
 
 -- a number that was written is read back
 pub number_there : (k n : ℕ) (more : List ℕ) → n < 256 ^ k

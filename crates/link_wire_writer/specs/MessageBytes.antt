@@ -3,10 +3,10 @@ use Rattle.std.specs.Prelude.{ℕ, ◌+◌, Bool, ◌&&◌, nat_le, ◌==◌, Li
 use Rattle.link_wire.specs.Codes.{xfer_segment, xfer_ack, xfer_refuse, keepalive, sess_term, msg_reject, sess_init, is_start}
 use Rattle.link_wire.specs.Limits.{longest_node, longest_list}
 use Rattle.link_wire.specs.Message.{items_of}
-use Rattle.link_wire.specs.Spelled.{be}
 use Rattle.link_wire.specs.declared.message.{ListOf.ListOf, ListOf.TheVariants.{Session, Transfer}}
 use Rattle.link_wire.specs.declared.message.Fields.{Fields}
 use Rattle.link_wire.specs.declared.message.Fields.TheVariants.{SessInit, Segment, Ack, Refuse, Keepalive, SessTerm, MsgReject}
+use Rattle.link_writing.specs.Numbers.{be}
 
 -- `node` are the bytes of a node ID, and `items` those of the items of an extension list. `node` is
 -- empty for a message without a node ID, and `items` for a message without a list.

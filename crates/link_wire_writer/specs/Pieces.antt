@@ -1,9 +1,9 @@
 -- Relations: the pieces of which a message is written. The promises need none of these definitions.
 use Rattle.std.specs.Prelude.{ℕ, List, [], ◌++◌, if◌then◌else◌}
 use Rattle.link_wire.specs.Codes.{xfer_segment, xfer_ack, xfer_refuse, keepalive, sess_term, msg_reject, sess_init, is_start}
-use Rattle.link_wire.specs.Spelled.{be}
 use Rattle.link_wire.specs.declared.message.Fields.{Fields}
 use Rattle.link_wire.specs.declared.message.Fields.TheVariants.{SessInit, Segment, Ack, Refuse, Keepalive, SessTerm, MsgReject}
+use Rattle.link_writing.specs.Numbers.{be}
 use Rattle.link_wire_writer.specs.MessageBytes.{node_bytes}
 
 -- a SESS_INIT up to the items of its list, which have `list` bytes

@@ -5,6 +5,7 @@ ghost use Rattle.arrayvec.specs.ArrayVec.{array_vec_len};
 ghost use Rattle.link_writing.specs.Numbers.{be};
 
 use arrayvec::ArrayVec;
+use byteorder::{BigEndian, ByteOrder};
 
 /// Appends these bytes.
 pub fn put_bytes<const N: usize>(buffer: &mut ArrayVec<u8, N>, bytes: &[u8])
@@ -30,7 +31,9 @@ pub fn put_u16<const N: usize>(buffer: &mut ArrayVec<u8, N>, number: u16)
     ensures items { buffer.new.items ≡ buffer.old.items ++ be 2 number }
     ensures len { array_vec_len buffer.new ≡ array_vec_len buffer.old + 2 }
 {
-    put_bytes(buffer, &number.to_be_bytes());
+    let mut bytes = [0; 2];
+    BigEndian::write_u16(&mut bytes, number);
+    put_bytes(buffer, &bytes);
 }
 
 /// Appends four bytes, big-endian.
@@ -39,7 +42,9 @@ pub fn put_u32<const N: usize>(buffer: &mut ArrayVec<u8, N>, number: u32)
     ensures items { buffer.new.items ≡ buffer.old.items ++ be 4 number }
     ensures len { array_vec_len buffer.new ≡ array_vec_len buffer.old + 4 }
 {
-    put_bytes(buffer, &number.to_be_bytes());
+    let mut bytes = [0; 4];
+    BigEndian::write_u32(&mut bytes, number);
+    put_bytes(buffer, &bytes);
 }
 
 /// Appends eight bytes, big-endian.
@@ -48,5 +53,7 @@ pub fn put_u64<const N: usize>(buffer: &mut ArrayVec<u8, N>, number: u64)
     ensures items { buffer.new.items ≡ buffer.old.items ++ be 8 number }
     ensures len { array_vec_len buffer.new ≡ array_vec_len buffer.old + 8 }
 {
-    put_bytes(buffer, &number.to_be_bytes());
+    let mut bytes = [0; 8];
+    BigEndian::write_u64(&mut bytes, number);
+    put_bytes(buffer, &bytes);
 }
