@@ -13,17 +13,17 @@ use Rattle.link_run_over_bundle_files.proofs.Dividing.{front_more, none_open, wh
 use Rattle.link_run_over_bundle_files.proofs.Divisions.{IsRefused, StaysDivided, stays_divided}
 use Rattle.link_run_over_bundle_files.proofs.Outcomes.{texts_going, unshown_going, told_same}
 use Rattle.link_tools_laws.specs.Prefix.{HasPrefixTexts}
-use Rattle.link_tools_laws.proofs.Prefixes.{AreFronts, fronts_same, fronts_trans, MadeOn, prefixed}
+use Rattle.link_tools_laws.proofs.Prefixes.{ArePrefixes, prefixes_same, prefixes_trans, MadeOn, prefixed}
 
 -- What is said of the bytes so far begins what is said with more bytes of the bundle, also if they
 -- end it. It also begins what is said of an input that ends between two bundles.
 pub record Grows (telling : BundleTelling) : Type 0 where
   pub part : (before : SoFar) (run : List ℕ)
-      → AreFronts (telling.texts before) (telling.texts (with_run before run None))
+      → ArePrefixes (telling.texts before) (telling.texts (with_run before run None))
   pub whole : (before : SoFar) (run : List ℕ) (info : BundleInfo) → 0 < length run
-      → AreFronts (telling.texts before) (telling.texts (with_run before run (Some info)))
+      → ArePrefixes (telling.texts before) (telling.texts (with_run before run (Some info)))
   pub ended : (bundles : List BundleWithInfo)
-      → AreFronts (telling.texts (between bundles)) (telling.ended bundles)
+      → ArePrefixes (telling.texts (between bundles)) (telling.ended bundles)
 
 -- if more bytes are needed before `run`, and none after it, then `run` is not empty
 some_come : (begun run : List ℕ) → bundle_goes begun ≡ true → bundle_goes (begun ++ run) ≡ false
@@ -42,7 +42,7 @@ module _ (telling : BundleTelling) (grows : Grows telling) where
   -- what is said of these bundles, and the bytes after them, begins what is said of this input too
   abbrev BeginsSaying : List BundleWithInfo → (begun : List ℕ) → Divided → Type 0
   BeginsSaying bundles begun input =
-      AreFronts (telling.texts (now bundles begun))
+      ArePrefixes (telling.texts (now bundles begun))
       (telling.texts (come_in (with_bundles bundles input)))
 
   -- ---- a bundle that is refused, or goes on
@@ -91,7 +91,7 @@ module _ (telling : BundleTelling) (grows : Grows telling) where
         let rest = drop (length (begun ++ run)) (begun ++ more) in
         let later = divided limit rest in
         let size = length-append begun run in
-        fronts_trans _ _ _ (grows.whole (now bundles begun) run info some)
+        prefixes_trans _ _ _ (grows.whole (now bundles begun) run info some)
         (rw (← append_assoc bundles (bundle ∷ []) later.bundles)
         (fewer (bundles ++ bundle ∷ []) [] rest (none_open limit)
         (omega (arith, size, length-drop (length (begun ++ run)) (begun ++ more)))))
@@ -116,7 +116,7 @@ module _ (telling : BundleTelling) (grows : Grows telling) where
 
   all_begin : (count : ℕ) → AllBegin count
   all_begin count bundles [] [] opened few =
-      rw (divided_none limit, append-nil bundles) (fronts_same _ _ refl)
+      rw (divided_none limit, append-nil bundles) (prefixes_same _ _ refl)
   all_begin zero bundles [] (byte ∷ more) opened few = absurd (omega arith)
   all_begin zero bundles (byte ∷ begun) more opened few = absurd (omega arith)
   all_begin (suc count) bundles [] (byte ∷ more) opened few =
@@ -127,7 +127,7 @@ module _ (telling : BundleTelling) (grows : Grows telling) where
   -- ---- what is made of an input
 
   ended_begins : (bundles : List BundleWithInfo) (rest : Option TailAfterBundles) → stop_by (length bundles) rest ≡ None
-      → AreFronts (telling.texts (come_in (record { bundles = bundles; rest = rest })))
+      → ArePrefixes (telling.texts (come_in (record { bundles = bundles; rest = rest })))
       (telling.ended bundles)
   ended_begins bundles None none = grows.ended bundles
   ended_begins bundles (Some rest) none = absurd (cc)
@@ -139,7 +139,7 @@ module _ (telling : BundleTelling) (grows : Grows telling) where
     On = MadeOn (told_of telling bytes) (told_of telling (bytes ++ more))
 
     ends : (told_of telling (bytes ++ more)).stop ≡ None
-        → AreFronts (told_of telling (bytes ++ more)).texts (told_of telling (bytes ++ more)).ended
+        → ArePrefixes (told_of telling (bytes ++ more)).texts (told_of telling (bytes ++ more)).ended
     unfolding told_of
     ends none =
         let all = divided limit (bytes ++ more) in ended_begins all.bundles all.rest none
@@ -149,13 +149,13 @@ module _ (telling : BundleTelling) (grows : Grows telling) where
     refused_on refused =
         let same = told_same telling bytes (now bundles begun) divides _ refused.divides more in
         record {
-          texts = fronts_same _ _ (ap (λ (m : Made). m.texts) (sym same));
+          texts = prefixes_same _ _ (ap (λ (m : Made). m.texts) (sym same));
           ended = ends;
           stays = λ shown. same;
         }
 
     texts_on : IsUnfinishedBundle limit begun
-        → AreFronts (telling.texts (now bundles begun)) (told_of telling (bytes ++ more)).texts
+        → ArePrefixes (telling.texts (now bundles begun)) (told_of telling (bytes ++ more)).texts
     unfolding told_of
     texts_on opened =
         rw (divides more)

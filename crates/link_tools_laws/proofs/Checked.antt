@@ -33,7 +33,7 @@ use Rattle.link_tools_laws.specs.Transfers.{ordered_by, ordered_after, ordered, 
 use Rattle.link_tools_laws.proofs.Placed.{counts_append, options, broken_with, broken_from, good_kept, none_before, Placed, is_closed, passing, transfers_in, begun_of, due_of, rules_of, told_transfers, AfterAll, from_start}
 use Rattle.link_tools_laws.proofs.Same.{accepted_in_order, all_kept, not_stray, taken_more, unpacked_in_order, heads_said}
 use Rattle.link_tools_laws.proofs.Walks.{walk_told, heads_grow, going, content_none, walk_events, walk_is}
-use Rattle.link_tools_laws.proofs.{Prefixes.front_first, SameRules.status_clean}
+use Rattle.link_tools_laws.proofs.{Prefixes.prefix_first, SameRules.status_clean}
 use Rattle.link_tools_laws.proofs.Whole.{AreRead, reading_read}
 use Rattle.link_report_broken_rules.specs.declared.rule.BrokenRule.TheVariants as rule
 use Rattle.link_session_rules.specs.declared.rule.MessageRule.TheVariants as message_rule
@@ -285,7 +285,7 @@ module _ (asked : CheckOptions) (bytes : List ℕ)
       grind (arith, good_kept, status_clean)
 
   keeps : KeepsMusts asked reading.contact heads
-  keeps = grind (arith, front_first, kept, none_before)
+  keeps = grind (arith, prefix_first, kept, none_before)
 
   faults : All IsSecondInitFault (faults_after [] heads)
   faults =

@@ -33,7 +33,8 @@ use Rattle.link_run_judge.proofs.Heads.{transfers_same, transfer_begins, transfe
 use Rattle.link_tool_check.specs.Checking.{BegunTransfer, Kept, broken_by, heads_with, judged, latest_with, checking, optional, origin_of, sender_of, item_doubt, data_texts, closed_texts, texts_at, with_bytes}
 use Rattle.link_tool_check.specs.Lines.{counts, line_of, lines_of, none_counts, at_offset}
 use Rattle.link_tool_check.specs.BundleRules.{bundle_doubt, bundle_rules}
-use Rattle.link_tools_laws.proofs.Prefixes.{IsFront, front_first, front_after, front_none}
+use Rattle.link_tools_laws.proofs.Prefixes.{prefix_first, prefix_after, prefix_none}
+use Rattle.link_tools_laws.specs.Prefix.{IsPrefixOf}
 use Rattle.link_tools_laws.proofs.Walks.{Follows, AllFollow}
 use Rattle.link_wire.specs.declared.message.Message.TheVariants as message
 use Rattle.link_transfer.specs.declared.joiner.Turn.TheVariants as turn
@@ -51,9 +52,9 @@ lines_append : (must : Bool) (first second : List RuleText)
 unfolding lines_of
 lines_append must first second = flat_map-append (line_of must) first second
 
-pub rules_front : (must : Bool) (rules all : List RuleText) → IsFront rules all
-    → IsFront (lines_of must rules) (lines_of must all)
-rules_front must rules all front = rw (front.1, lines_append must rules front.0) (front_first _ _)
+pub rules_prefix : (must : Bool) (rules all : List RuleText) → IsPrefixOf rules all
+    → IsPrefixOf (lines_of must rules) (lines_of must all)
+rules_prefix must rules all front = rw (front.1, lines_append must rules front.0) (prefix_first _ _)
 
 module _ (asked : CheckOptions) where
   abbrev pub options : (must : Bool) → CheckOptions
@@ -73,16 +74,16 @@ module _ (asked : CheckOptions) where
 
   -- the rules that events break come before those that are broken with more
   pub broken_first : (heads : List HeadWithOrder) (latest : Option BegunTransfer) (events more : List WalkEvent)
-      → IsFront (broken_from heads latest events) (broken_from heads latest (events ++ more))
-  broken_first heads latest [] more = front_none _
+      → IsPrefixOf (broken_from heads latest events) (broken_from heads latest (events ++ more))
+  broken_first heads latest [] more = prefix_none _
   broken_first heads latest (event ∷ events) more =
-      front_after (broken_with heads latest event) _ _
+      prefix_after (broken_with heads latest event) _ _
       (broken_first (heads_with heads event) (latest_with latest event) events more)
 
   module _ (must : Bool) where
     -- if none of the rules counts that more events break, none does that these break
     pub none_before : (heads : List HeadWithOrder) (latest : Option BegunTransfer)
-        (events more : List WalkEvent) → IsFront events more
+        (events more : List WalkEvent) → IsPrefixOf events more
         → none_counts must (broken_from heads latest more) ≡ true
         → none_counts must (broken_from heads latest events) ≡ true
     none_before heads latest events more front none =

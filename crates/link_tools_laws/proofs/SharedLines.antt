@@ -3,7 +3,7 @@ use Rattle.std.proofs.Common.{◌≡◌, ℕ, inl, inr, Bool, true, false, not, 
 use Rattle.link_report.specs.Text.{newline}
 use Rattle.link_tools_laws.specs.Prefix.{IsPrefixOf}
 use Rattle.link_tools_laws.specs.Withheld.{AreLines}
-use Rattle.link_tools_laws.proofs.Prefixes.{front_none}
+use Rattle.link_tools_laws.proofs.Prefixes.{prefix_none}
 
 -- ---- lists without a byte
 
@@ -110,7 +110,7 @@ fewer_lines byte common (inr (b ∷ before, is)) = inr (before, ap (drop 1) is)
 pub shared_before : (before one other common : List ℕ) → Part one other → AreLines common
     → IsPrefixOf common (before ++ one) → IsPrefixOf common (before ++ other)
     → IsPrefixOf common before
-shared_before before one other [] part lines first second = front_none before
+shared_before before one other [] part lines first second = prefix_none before
 shared_before [] one other (c ∷ common) part lines first second =
     let none = part (c ∷ common) lines first second in
     absurd (omega (arith, ap length none))

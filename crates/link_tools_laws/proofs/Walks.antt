@@ -16,9 +16,9 @@ use Rattle.link_run_over_transfers.specs.Walk.{head_at, WalkEvent, Data, Whole, 
 use Rattle.link_run_over_transfers.specs.{declared.consumer.Manner.Manner, Telling.HeadComes}
 use Rattle.link_run_over_transfers.proofs.{Comes.{plain_open, open_if}, Texts.{made_stays, unread}}
 use Rattle.link_run_over_transfers.proofs.Heads.{continues_some, open_then, has_open-append, data_keeps}
-use Rattle.link_tools_laws.specs.Prefix.{HasPrefixTexts}
+use Rattle.link_tools_laws.specs.Prefix.{IsPrefixOf, HasPrefixTexts}
 use Rattle.link_tools_laws.proofs.Whole.{IsWhole, FitsData, AreWhole, AreRead, ReadingReads, no_content, reading_read}
-use Rattle.link_tools_laws.proofs.Prefixes.{IsFront, AreFronts, front_same, front_first, front_after, front_none, front_trans, fronts_same, fronts_trans, prefixed}
+use Rattle.link_tools_laws.proofs.Prefixes.{ArePrefixes, prefix_same, prefix_first, prefix_after, prefix_none, prefix_trans, prefixes_same, prefixes_trans, prefixed}
 use Rattle.link_transfer.specs.declared.joiner.Turn.TheVariants as turn
 
 -- ---- the data of heads
@@ -277,7 +277,7 @@ end_follows walked told = grind arith
 -- ---- more data of a segment
 
 bytes_grow : (last : Bool) (size : ℕ) (content piece : List ℕ) → length content < size
-    → IsFront (data_events content ++ (if last && (not (size == 0) && (length content == size))
+    → IsPrefixOf (data_events content ++ (if last && (not (size == 0) && (length content == size))
     then Whole ∷ [] else []))
     (data_events (content ++ piece) ++ (if last && (not (size == 0)
     && (length (content ++ piece) == size)) then Whole ∷ [] else []))
@@ -289,12 +289,12 @@ bytes_grow last size content piece short =
       map-append Data content piece,
       append_assoc,
     )
-    (front_first _ _)
+    (prefix_first _ _)
 
 content_grows : (effect : Option Turn) (size : ℕ) (content piece : List ℕ) → length content < size
-    → IsFront (content_events effect size content) (content_events effect size (content ++ piece))
-content_grows None size content piece short = front_none _
-content_grows (Some turn.Other) size content piece short = front_none _
+    → IsPrefixOf (content_events effect size content) (content_events effect size (content ++ piece))
+content_grows None size content piece short = prefix_none _
+content_grows (Some turn.Other) size content piece short = prefix_none _
 content_grows (Some (turn.Begin abandoned last)) size content piece short =
     bytes_grow last size content piece short
 content_grows (Some (turn.Continue last)) size content piece short =
@@ -304,7 +304,7 @@ module _ (manner : Manner) where
   -- ---- more heads
 
   abbrev pub WalkGrows : (before after : Walked) → Type 0
-  WalkGrows before after = IsFront before.events after.events
+  WalkGrows before after = IsPrefixOf before.events after.events
 
   -- one more head, with this data or more
   module _ (was : Walked) (head : Entry) (piece : List ℕ) where
@@ -316,26 +316,26 @@ module _ (manner : Manner) where
         WalkGrows was one × (length head.content < data_length head.message → WalkGrows one other)
 
     taken_grows : BothGrow (taken_with manner was head) (taken_with manner was longer)
-    taken_grows = search (content_grows, front_after, front_first)
+    taken_grows = search (content_grows, prefix_after, prefix_first)
 
     refused_grows : (goes : Bool) (refused : Option (ℕ × OrderFault))
         → BothGrow (if goes then taken_with manner was head else record was { refused = refused })
         (if goes then taken_with manner was longer else record was { refused = refused })
     refused_grows true refused = taken_grows
-    refused_grows false refused = (front_same _ _ refl, λ short. front_same _ _ refl)
+    refused_grows false refused = (prefix_same _ _ refl, λ short. prefix_same _ _ refl)
 
     next_grows : (stop : Option (ℕ × OrderFault)) (refused : Option OrderFault)
         → refusal was.taken (event_of head.message) ≡ refused
         → BothGrow (with_entry_unless stop manner was head)
         (with_entry_unless stop manner was longer)
-    next_grows (Some stop) refused is = (front_same _ _ refl, λ short. front_same _ _ refl)
+    next_grows (Some stop) refused is = (prefix_same _ _ refl, λ short. prefix_same _ _ refl)
     next_grows None None is = rw is taken_grows
     next_grows None (Some fault) is = rw is (refused_grows manner.goes_on _)
 
   pub heads_grow : (heads : List Entry) (was : Walked) → WalkGrows was (fold (with_next manner) was heads)
-  heads_grow [] was = front_same _ _ refl
+  heads_grow [] was = prefix_same _ _ refl
   heads_grow (head ∷ more) was =
-      front_trans _ _ _ (next_grows was head [] was.refused _ refl).0
+      prefix_trans _ _ _ (next_grows was head [] was.refused _ refl).0
       (heads_grow more (with_next manner was head))
 
   last_grows : (last more : List Entry) (was : Walked) → LastGoesOn last more
@@ -343,7 +343,7 @@ module _ (manner : Manner) where
   last_grows [] more was follows = heads_grow more was
   last_grows (head ∷ []) more was follows =
       rw follows.are
-      (front_trans _ _ _ ((next_grows was head follows.piece was.refused _ refl).1 follows.short)
+      (prefix_trans _ _ _ ((next_grows was head follows.piece was.refused _ refl).1 follows.short)
       (heads_grow follows.others _))
   last_grows (head ∷ second ∷ rest) more was follows = absurd follows
 
@@ -368,7 +368,7 @@ module _ (manner : Manner) where
       (rw (fold-append next start before.entries (cut_heads before.end))
       (last_grows (cut_heads before.end) (rest.entries ++ cut_heads rest.end)
       (fold next start before.entries) on.messages.follows)))
-      (λ unread. rw (unread.0, unread.1, none unread.0) (front_none _))
+      (λ unread. rw (unread.0, unread.1, none unread.0) (prefix_none _))
       on.contact
 
   -- what a stream tells begins what any longer stream tells
@@ -382,14 +382,14 @@ module _ (manner : Manner) where
 abbrev pub EventAdds : Telling → Type 0
 EventAdds telling =
     (before : List WalkEvent) (event : WalkEvent) → Follows before event
-    → AreFronts (telling.texts before) (telling.texts (before ++ event ∷ []))
+    → ArePrefixes (telling.texts before) (telling.texts (before ++ event ∷ []))
 
 module _ (telling : Telling) (adds : EventAdds telling) where
   added : (before more : List WalkEvent) → AllFollow before more
-      → AreFronts (telling.texts before) (telling.texts (before ++ more))
-  added before [] follow = fronts_same _ _ (ap telling.texts (sym (append-nil before)))
+      → ArePrefixes (telling.texts before) (telling.texts (before ++ more))
+  added before [] follow = prefixes_same _ _ (ap telling.texts (sym (append-nil before)))
   added before (event ∷ more) follow =
-      fronts_trans _ _ _ (adds before event follow.0)
+      prefixes_trans _ _ _ (adds before event follow.0)
       (rw (← append_assoc before (event ∷ []) more)
       (added (before ++ event ∷ []) more follow.1))
 

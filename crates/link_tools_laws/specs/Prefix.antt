@@ -2,9 +2,9 @@
 use Rattle.std.specs.Prelude.{◌≡◌, ℕ, List, ◌++◌}
 use Rattle.link_run.specs.Run.{Tool}
 
--- the whole begins with this text
-abbrev pub IsPrefixOf : List ℕ → List ℕ → Type 0
-IsPrefixOf text whole = (rest : List ℕ) × (whole ≡ text ++ rest)
+-- the whole list begins with this one
+abbrev pub IsPrefixOf : {A : Type 0} → List A → List A → Type 0
+IsPrefixOf {A} list whole = (rest : List A) × (whole ≡ list ++ rest)
 
 -- The texts that the bytes determine are prefixes of the texts of an input that has these bytes and
 -- then `more`.
