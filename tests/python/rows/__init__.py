@@ -1,4 +1,4 @@
-"""Runs of `blocks` and `check` with what each has to write, for tests/gate/model-rows.
+"""Runs of the tools with what each has to write, for tests/gate/model-rows.
 
 What is to be written was worked out by hand from the formats and the RFCs, and not taken from the
 model or from the program. Streams are made by the encoders of examples/make.py, and bundles are
@@ -14,13 +14,14 @@ spelled out in hexadecimal or made by those of tests/python/inputs.
     runs    `check`: several rules at once, the options, and the status
     binding `check`: whom a line accuses, with `--own` and without, and unknown parts
     rfc9173 both: the bundles of RFC 9173 appendix A
+    edges   `unpack` and `pack`: numbers at their bounds
     laws    what holds of `blocks` and `check` for any input
     table   these files by their names
 """
 
 import os
 import sys
-from typing import NamedTuple
+from typing import NamedTuple, Union
 
 TOP = os.path.dirname(os.path.dirname(os.path.dirname(os.path.dirname(os.path.realpath(__file__)))))
 
@@ -28,12 +29,15 @@ sys.path.insert(0, f"{TOP}/examples")
 
 
 class Row(NamedTuple):
-    """A run of a tool, and what it has to write: lines of output and of report, and the status."""
+    """A run of a tool, and what it has to write: lines of output and of report, and the status.
+
+    An output that has no lines is given as bytes.
+    """
 
     name: str
     tool: str
     options: dict
     content: bytes
-    output: list
+    output: Union[list, bytes]
     report: list
     status: int

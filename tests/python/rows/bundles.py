@@ -124,6 +124,8 @@ BUNDLES = {
         [
             bundle(kind=2),
             bundle(block(11, 2, security([1, 0], 1, (1, 1))), kind=0),
+            # Each target counts here, also the 65th
+            (bundle(protecting(2, *range(300, 364), 0), kind=0), "should security-targets: block=2 target=300"),
             (bundle(block(11, 2, b"\x81\x01"), kind=0), "must block-data: block=2 byte=30"),
             # The block of integrity is ciphertext, or may be
             bundle(INTEGRITY, HIDDEN_2, kind=0),

@@ -62,6 +62,11 @@ def forms():
         "block 1 at=24 length=7 type=1/payload flags=00 check=none data-at=30 data-length=1",
         "end length=32 good",
     ])
+    yield bundle_row("a fragment of nothing", f"9f 8a 07 01 00 {ENDPOINTS} 82 00 00 00 00 00 {PAYLOAD} ff", [
+        f"primary at=1 length=23 flags=01 check=none {FIELDS} fragment=0/0",
+        "block 1 at=24 length=7 type=1/payload flags=00 check=none data-at=30 data-length=1",
+        "end length=32 good",
+    ])
     yield bundle_row("a CRC-16", OTHERS["dtn endpoints, CRC-16 in the primary block"], [
         "primary at=1 length=56 flags=04 check=crc16 destination=dtn://node/a source=dtn://node/b"
         " report-to=dtn://node/b time=700000000000 sequence=7 lifetime=3600000",
@@ -106,6 +111,12 @@ def numbers():
             "end length=116 good",
         ],
     )
+    yield bundle_row("a type that ends as the payload's", f"9f {PRIMARY} 85 1b 00 00 00 01 00 00 00 01 02 00 00 40 {PAYLOAD} ff", [
+        PRIMARY_LINE,
+        "block 2 at=22 length=14 type=4294967297/? flags=00 check=none data-at=36 data-length=0",
+        "block 1 at=36 length=7 type=1/payload flags=00 check=none data-at=42 data-length=1",
+        "end length=44 good",
+    ])
     endpoints = "82 01 63 61 20 62 82 02 83 01 02 03 82 01 60"
     yield bundle_row("endpoint IDs", f"9f 88 07 00 00 {endpoints} 82 00 00 00 {PAYLOAD} ff", [
         "primary at=1 length=23 flags=00 check=none destination=dtn:a\\x20b source=ipn:1.2.3 report-to=dtn:"

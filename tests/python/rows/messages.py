@@ -239,6 +239,9 @@ MESSAGES = {
             # A START before the SESS_INIT is no case, and counts for the next
             (CONTACT + sent(CLEAN, 3) + INIT + sent(CLEAN, 5),
              ["6 must order fault=segment-before-session-initiation", "93 should transfer-id-order id=5"]),
+            # After the greatest ID, none is the next one
+            (CONTACT + sent(CLEAN, LAST) + INIT + sent(CLEAN, 0),
+             ["6 must order fault=segment-before-session-initiation", "93 should transfer-id-order id=0"]),
         ],
         [HEAD + of_ids(0), HEAD + of_ids(*range(70))],
     ),

@@ -116,6 +116,8 @@ SECURITY = {
             (bundle(hiding(9, 1, context_flags=0x04), **LATER), "must security-flags: block=9 flags=04"),
             (bundle(protecting(2, 0), protecting(3, 1, context_flags=0x11), hiding(9, 4, context_flags=0x02), HOPS_4),
              "must security-flags: block=3 flags=11"),
+            (bundle(protecting(2, 0), hiding(9, 4, context_flags=0x02), protecting(3, 1, context_flags=0x11), HOPS_4),
+             "must security-flags: block=9 flags=02"),
         ],
         [
             bundle(protecting(2, 1, context_flags=0x01)), bundle(hiding(9, 1, context_flags=0x01)),
@@ -225,6 +227,8 @@ SECURITY = {
             (bundle(hiding(9, 1, context=1), **LATER), "must confidential-context: block=9"),
             (bundle(AGE, hiding(7, 1), hiding(9, 2, context=1), HOPS_3, hiding(8, 3, context=1)),
              "must confidential-context: block=9"),
+            # The third block of confidentiality
+            (bundle(AGE_3, HOPS_4, hiding(7, 3), hiding(8, 4), hiding(9, 1, context=1)), "must confidential-context: block=9"),
         ],
         [
             *[bundle(hiding(9, 1, context=it)) for it in [2, 3, LAST]], bundle(protecting(2, 1, context=1)),

@@ -1,10 +1,10 @@
 """The files of rows and laws by their names. The scripts that try them go by this table."""
 
-from . import binding, bundles, corpus, faults, laws, lines, messages, rfc9173, runs, security, words
+from . import binding, bundles, corpus, edges, faults, laws, lines, messages, rfc9173, runs, security, words
 
 MODULES = {
     "lines": lines, "words": words, "messages": messages, "bundles": bundles, "security": security, "corpus": corpus,
-    "faults": faults, "runs": runs, "binding": binding, "rfc9173": rfc9173, "laws": laws,
+    "faults": faults, "runs": runs, "binding": binding, "rfc9173": rfc9173, "edges": edges, "laws": laws,
 }
 
 
