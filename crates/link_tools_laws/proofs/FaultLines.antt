@@ -46,7 +46,7 @@ no_colon n = number_lacks 58 (λ digit few is. absurd (omega (arith, is, few))) 
 
 -- ---- the line of a fault at an offset
 
--- the text after the offset
+-- the whole line of a fault, whose words follow the offset
 abbrev line_at : (offset : ℕ) → (words : List ℕ) → List ℕ
 line_at offset words = codes "tcpclkit: " ++ ((offset_text offset ++ words) ++ newline)
 
