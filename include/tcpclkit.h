@@ -12,13 +12,13 @@
  *       refuse(verdict.fault.code, verdict.fault.offset);
  *
  * What is proved. Each function `tcpclkit_NAME` but tcpclkit_abi is inline: it tests pointers and
- * lengths, and calls `tcpclkit_raw_NAME` of the library. Only tcpclkit_write_total and the
- * functions for default options have no raw function. The paragraph "Proved" in a comment says what
- * the contract of the raw function says. The words in `backticks` there are definitions of the
- * folders `specs/` of the source, which docs/DEFINITIONS.md explains. Each raw function returns,
- * whatever the bytes and the numbers are, and reads and writes only what it was lent. Those that
- * take a scan require one in its memory, or room to start one. The inline functions are tested, and
- * not proved.
+ * lengths, and calls `tcpclkit_raw_NAME` of the library. There is no raw function for
+ * tcpclkit_write_total, for default options, and for what these functions share. There is no inline
+ * one for the size and the alignment of a scan. The paragraph "Proved" in a comment says what the
+ * contract of the raw function says. The words in `backticks` there are definitions of the folders
+ * `specs/` of the source, which docs/DEFINITIONS.md explains. Each raw function returns, whatever
+ * the bytes and the numbers are, and reads and writes only what it was lent. Those that take a scan
+ * require one in its memory, or room to start one. The inline functions are tested, and not proved.
  *
  * What the caller owes. Each pointer is valid for the length that follows it, and each pointer to a
  * struct is valid and aligned. Nobody changes what is lent while the call runs, not even from
@@ -96,7 +96,8 @@ enum {
   TCPCLKIT_RANGE = 6,
   /* A pointer is null that may not be. Nothing was written, except as above. */
   TCPCLKIT_NULL = 7,
-  /* The C library refused the memory that tcpclkit_pack or tcpclkit_pack_more asked for. */
+  /* tcpclkit_pack or tcpclkit_pack_more wrote nothing. Tests show that it was refused memory. No
+   * proof says so. */
   TCPCLKIT_MEMORY = 8,
   /* The scan has ended, with a good bundle or a fault, and took none of these bytes. */
   TCPCLKIT_SCAN_ENDED = 9
@@ -334,8 +335,7 @@ static inline uint32_t tcpclkit_describe_bundle(const uint8_t *bytes, size_t len
  * copied at any time, by assignment or memcpy: the copy has seen the same bytes.
  *
  * The library cannot see whether the memory after the mark was damaged, or happens to have the
- * mark. Then a call may return anything, crash, never return, or write outside of what it was lent:
- * 38 of 10,000 tries with such memory did.
+ * mark. Then a call may return anything, crash, never return, or write outside of what it was lent.
  */
 struct tcpclkit_scan {
   uint64_t memory[TCPCLKIT_SCAN_WORDS];

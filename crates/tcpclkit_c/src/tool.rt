@@ -162,8 +162,9 @@ impl SliceTool for Packing {
 /// Runs `pack` over the bytes, and writes its two texts as far as they fit in their slices.
 ///
 /// A text is wanted if its `wants_` argument is not 0. Returns `OK`, or `TOO_SMALL` if a wanted
-/// text does not fit. If the request for memory was refused, writes no text and returns `MEMORY`.
-/// If an option or the length of the node ID is out of range, writes nothing and returns `RANGE`.
+/// text does not fit. Without its memory, writes no text and returns `MEMORY`: no clause says that
+/// a request was refused. If an option or the length of the node ID is out of range, writes nothing
+/// and returns `RANGE`.
 #[unsafe(no_mangle)]
 pub extern "C" fn tcpclkit_raw_pack(
     alloc: Global,
@@ -256,9 +257,10 @@ fn more_options(numbers: &MoreNumbers) -> MoreOptions
 /// Runs `pack_more` over the bytes, and writes its two texts as far as they fit in their slices.
 ///
 /// A text is wanted if its `wants_` argument is not 0. Returns `OK`, or `TOO_SMALL` if a wanted
-/// text does not fit. If the request for memory was refused, writes no text and returns `MEMORY`.
-/// If an option is out of range, writes nothing and returns `RANGE`. It does the same if `first`
-/// and the number of bytes together exceed 2^64 - 1, since the transfer IDs could then run out.
+/// text does not fit. Without its memory, writes no text and returns `MEMORY`: no clause says that
+/// a request was refused. If an option is out of range, writes nothing and returns `RANGE`. It does
+/// the same if `first` and the number of bytes together exceed 2^64 - 1, since the transfer IDs
+/// could then run out.
 #[unsafe(no_mangle)]
 pub extern "C" fn tcpclkit_raw_pack_more(
     alloc: Global,
