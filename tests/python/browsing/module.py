@@ -2,6 +2,7 @@
 
 import base64
 import glob
+import itertools
 import json
 import random
 import subprocess
@@ -118,5 +119,6 @@ def checks(browser):
         for name, inputs, runs in groups():
             wanted = workers.map(lambda content: by_program(content, runs), inputs)
             made = by_module(browser, inputs, runs)
-            wrong = [content.hex() for content, one, two in zip(inputs, wanted, made) if one != two]
+            runs_of_each = itertools.zip_longest(inputs, wanted, made, fillvalue=b"")
+            wrong = [content.hex() for content, one, two in runs_of_each if one != two]
             yield f"module: {name}: {len(inputs)} inputs, {len(runs)} runs each", ([], True), (wrong[:1], bool(inputs))
