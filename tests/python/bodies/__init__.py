@@ -7,3 +7,9 @@
     kept      verdicts of earlier runs
     trying    which edits are tried together, and which alone
 """
+
+import os
+import sys
+
+# package/sums.py has the crates and their checksums.
+sys.path.insert(0, f"{os.path.dirname(os.path.realpath(__file__))}/../../../package")

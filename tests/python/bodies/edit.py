@@ -9,11 +9,12 @@ before it made. Lines `# promise: NAME` name the promises that the wrong body br
 import os
 import re
 
+from sums import PARTS
+
 from . import source
 
 NAME = re.compile(r"\w[\w.-]*\.edit", re.ASCII)
 LINE = re.compile(r"(file|after|old|new|# promise):(?: (.*))?")
-PARTS = ("src/", "specs/", "proofs/")
 
 
 class Unfit(Exception):
@@ -83,7 +84,7 @@ class Edit:
         """Returns the texts of the files that the edit changes, by their paths in the crate."""
         texts = {}
         for file, after, old, new in self.pairs:
-            if os.path.normpath(file) != file or not file.startswith(PARTS):
+            if os.path.normpath(file) != file or file.partition("/")[0] not in PARTS:
                 raise Unfit(f"{file} is no file of src, specs or proofs")
             text = texts[file] if file in texts else read_file(file)
             if old == new:

@@ -4,12 +4,12 @@ The entries are beside the kit, or in the user's cache if nothing can be written
 any checkout on this machine uses them. Only refusals are kept.
 """
 
-import hashlib
 import json
 import os
 import tempfile
 
-from . import edit as edits
+from sums import Sums, content, sum_of
+
 from .judge import REFUSED, WEAK, Verdict
 
 FOLDER = "rattle-kept-edits"
@@ -17,49 +17,12 @@ FOLDER = "rattle-kept-edits"
 JUDGE = f"{os.path.dirname(__file__)}/judge.py"
 
 
-def content(path):
-    """Returns the bytes of a file."""
-    with open(path, "rb") as file:
-        return file.read()
-
-
-def sum_of(*parts):
-    """Returns a checksum of these values."""
-    return hashlib.sha256(repr(parts).encode()).hexdigest()
-
-
-def files_of(folder):
-    """Returns the paths and contents of what a check of a crate reads, in a fixed order."""
-    found = []
-    for part in edits.PARTS:
-        for at, folders, names in os.walk(f"{folder}/{part}"):
-            folders.sort()
-            paths = [f"{at}/{name}" for name in sorted(names)]
-            found += [(os.path.relpath(path, folder), content(path)) for path in paths]
-    return found
-
-
-class Sums:
-    """The checksums of crates, each with those of the crates below it."""
-
-    def __init__(self, kit, crates):
-        self.crates, self.known = crates, {}
-        self.base = sum_of(kit.identity, content(JUDGE))
-
-    def of(self, name):
-        """Returns the checksum of a crate."""
-        if name not in self.known:
-            crate = self.crates[name]
-            below = [self.of(it) for it in crate.own_below]
-            self.known[name] = sum_of(self.base, crate.line, files_of(crate.folder), below)
-        return self.known[name]
-
-
 class Kept:
     """The refusals that earlier runs kept, unless the run is to try all anew."""
 
-    def __init__(self, kit, sums, anew=False):
-        self.sums, self.anew, self.folder = sums, anew, None
+    def __init__(self, kit, crates, anew=False):
+        self.sums = Sums(crates, sum_of(kit.identity, content(JUDGE)))
+        self.anew, self.folder = anew, None
         cache = os.environ.get("XDG_CACHE_HOME") or os.path.expanduser("~/.cache")
         for folder in [os.path.dirname(kit.folder), f"{cache}/tcpclkit"]:
             try:

@@ -12,13 +12,14 @@ import tempfile
 import threading
 from typing import NamedTuple
 
+from sums import PARTS, Sums, is_built
+
 from . import judge
 
 # A check that takes longer comes to no verdict.
 SECONDS = 3600
 # A command under which each run is started, such as one that waits for its turn
 UNDER = "TCPCLKIT_CHECK_BY"
-PARTS = ("src", "specs", "proofs")
 
 
 class Run(NamedTuple):
@@ -42,40 +43,6 @@ class Kit:
         """Returns what `rt` prints for a word."""
         ran = subprocess.run(["rt", word], stdout=subprocess.PIPE, text=True, check=True)
         return ran.stdout.strip()
-
-
-class Crate:
-    """A crate of crates.txt: its folder, its line, and the crates that it uses."""
-
-    def __init__(self, top, line):
-        head, _, uses = line.partition(":")
-        self.line, self.name = line, head.split()[0]
-        self.is_static, self.uses = "staticlib" in head.split(), uses.split()
-        self.folder = f"{top}/crates/{self.name}"
-        self.is_program = os.path.isfile(f"{self.folder}/src/main.rt")
-        # The crates of this repository that it uses, and those with the crates below them
-        self.own_uses, self.own_below = [], []
-
-
-def crates_of(top):
-    """Returns the crates of crates.txt by their names, lower ones first."""
-    with open(f"{top}/crates.txt", encoding="utf-8") as file:
-        lines = [line.partition("#")[0].strip() for line in file]
-    crates = {crate.name: crate for crate in (Crate(top, line) for line in lines if line)}
-    for crate in crates.values():
-        crate.own_uses = [name for name in crate.uses if name in crates]
-    ordered = {}
-
-    def add(name):
-        for used in crates[name].own_uses:
-            add(used)
-        below = [it for used in crates[name].own_uses for it in [*ordered[used].own_below, used]]
-        crates[name].own_below = list(dict.fromkeys(below))
-        ordered.setdefault(name, crates[name])
-
-    for name in crates:
-        add(name)
-    return ordered
 
 
 class Prover:
@@ -131,32 +98,15 @@ class Prover:
         """Proves a crate as it is. The checks of edits begin with what this leaves in its out/.
 
         `rt lib` has nothing to prove where `./build` or an earlier run built the library. For other
-        crates `rt` notes no such thing.
+        crates `rt` notes no such thing, but `./build` does.
         """
         sweep(crate)
         is_library = not crate.is_static and not crate.is_program
         is_kept = os.path.isdir(f"{crate.folder}/out/incremental")
-        if is_kept and not is_library and self.is_built(crate):
+        if is_kept and not is_library and is_built(Sums(self.crates, self.kit.identity), crate.name):
             return Run(0, "", 0.0, 0)
         word = "lib" if is_kept and is_library else "check"
         return self.run(["rt", word, "--jobs", str(jobs)], crate.folder)
-
-    def is_built(self, crate):
-        """Returns whether `./build` built a crate with this kit, and no source changed since.
-
-        The date of `build.done` is the time at which that build began.
-        """
-        done = f"{crate.folder}/out/build.done"
-        folders = [self.crates[name].folder for name in [crate.name, *crate.own_below]]
-        paths = [f"{folder}/{part}" for folder in folders for part in PARTS]
-        files = [f"{at}/{name}" for it in paths for at, _, names in os.walk(it) for name in names]
-        files.append(f"{os.path.dirname(os.path.dirname(crate.folder))}/crates.txt")
-        try:
-            with open(done, encoding="utf-8") as file:
-                by_this_kit = file.read().strip() == self.kit.identity
-            return by_this_kit and max(map(os.path.getmtime, files)) < os.path.getmtime(done)
-        except OSError:
-            return False
 
     def _words(self, crate):
         """Returns the command that checks a crate in the folder where it is run, as `rt` does."""
