@@ -1,6 +1,7 @@
 """How tests/gate/random-sessions and random-captures report, and the lines that they let pass."""
 
-SHOWN = 5
+# The seed of a run that is given none, and how many failures of a kind are shown
+SEED, SHOWN = "2026", 5
 
 # Rules of level should that a node of a conforming session may break, each with its reason (RFC 9174)
 CHOICES = {
