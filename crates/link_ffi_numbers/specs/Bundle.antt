@@ -10,15 +10,16 @@ use Rattle.link_bundle_blocks.specs.Bundle.{verdict, payload_seen, state_of}
 use Rattle.link_bundle_heads.specs.Rows.{is_fragment}
 use Rattle.link_bundle_blocks.specs.Primary.{AcceptedPrimaryFields}
 use Rattle.link_ffi_numbers.specs.Fault.{no_fault, bundle_fault}
+use Rattle.link_ffi_numbers.specs.Status.{status_ok, status_truncated, status_fault}
 use Rattle.link_ffi_numbers.specs.declared.{fault.Fault.Fault, bundle.Bundle.Bundle}
 use Rattle.link_ffi_numbers.specs.declared.bundle.{EidNumbers.EidNumbers, Verdict.Verdict}
 
 -- the status that a call returns for a scan in this state: TCPCLKIT_TRUNCATED, TCPCLKIT_OK or
 -- TCPCLKIT_FAULT
 abbrev pub state_status : State → ℕ
-state_status Going = 2
-state_status Ended = 0
-state_status (Failed fault offset) = 4
+state_status Going = status_truncated
+state_status Ended = status_ok
+state_status (Failed fault offset) = status_fault
 
 -- the fault of a verdict; a good bundle has none
 abbrev pub fault_of : Result BundleInfo (BundleFault × ℕ) → Fault

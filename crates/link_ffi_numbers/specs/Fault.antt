@@ -7,6 +7,7 @@ use Rattle.link_transfer_answer_judge.specs.declared.answers.AnswerFault.{Answer
 use Rattle.link_transfer_answer_judge.specs.declared.answers.AnswerFault.TheVariants.{OtherTransfer, LengthFalls, LengthNotSent, EndTooEarly}
 use Rattle.link_wire.specs.declared.fault.WireFault.{WireFault}
 use Rattle.link_wire.specs.declared.fault.WireFault.TheVariants.{Truncated, BadMagic, BadVersion, UnknownType, NodeIdTooLong, ListTooLong, TooManyItems, ItemsOverrun}
+use Rattle.link_ffi_numbers.specs.Status.{status_truncated, status_fault}
 use Rattle.link_ffi_numbers.specs.declared.fault.Fault.{Fault}
 
 -- no fault, whose code is 0
@@ -58,8 +59,8 @@ wire_fault fault offset =
 
 -- the status that a call returns for a fault of a recording: TCPCLKIT_TRUNCATED or TCPCLKIT_FAULT
 abbrev pub wire_status : WireFault → ℕ
-wire_status Truncated = 2
-wire_status _ = 4
+wire_status Truncated = status_truncated
+wire_status _ = status_fault
 
 -- the code of a fault of an answer to a transfer
 abbrev pub answer_code : AnswerFault → ℕ

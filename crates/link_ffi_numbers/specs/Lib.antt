@@ -1,3 +1,4 @@
+pub mod Status
 pub mod Fault
 pub mod Named
 pub mod Bundle

@@ -9,6 +9,7 @@ use Rattle.link_transfer.specs.declared.fault.OrderFault.{OrderFault}
 use Rattle.link_transfer.specs.declared.fault.OrderFault.TheVariants.{SecondSessInit, SegmentBeforeSessInit, NoSuchOpenTransfer, StartRepeatsOpenId, StartAfterSessTerm}
 use Rattle.link_transfer.specs.declared.joiner.Turn as effect
 use Rattle.link_transfer.specs.declared.joiner.Turn.TheVariants.{Other, Begin, Continue}
+use Rattle.link_ffi_numbers.specs.Status.{status_ok, status_fault}
 use Rattle.link_ffi_numbers.specs.declared.order.{Order.Order, Turn.Turn}
 use Rattle.link_ffi_numbers.specs.declared.recording.Message as numbers
 
@@ -94,9 +95,9 @@ is_in_range order it =
 -- `answer` and `status` are what a call returns for a message with this judgement; a refused
 -- message does nothing
 abbrev pub ReturnsTurn : Result effect.Turn OrderFault → Turn → ℕ → Type 0
-ReturnsTurn (Ok turn) answer status = (status ≡ 0) × (answer ≡ turn_shown turn)
+ReturnsTurn (Ok turn) answer status = (status ≡ status_ok) × (answer ≡ turn_shown turn)
 ReturnsTurn (Err fault) answer status =
-    (status ≡ 4) × (answer ≡ record no_turn { fault = order_code fault })
+    (status ≡ status_fault) × (answer ≡ record no_turn { fault = order_code fault })
 
 -- what a message that was taken does to the transfers, as numbers; `None` is a stray segment, which
 -- does nothing and has `turn` 3

@@ -11,6 +11,7 @@ use Rattle.link_wire.specs.declared.message.{ListOf.ListOf, ListOf.TheVariants.S
 use Rattle.link_wire.specs.declared.message.Message as read
 use Rattle.link_wire.specs.declared.slices.{ItemAt.ItemAt, MessageAt.MessageAt, Span.Span}
 use Rattle.link_ffi_numbers.specs.Fault.{no_fault, wire_status, wire_fault}
+use Rattle.link_ffi_numbers.specs.Status.{status_ok, status_data_truncated}
 use Rattle.link_ffi_numbers.specs.declared.{fault.Fault.Fault, recording.Contact.Contact}
 use Rattle.link_ffi_numbers.specs.declared.recording.{Item.Item, Message.Message}
 
@@ -28,7 +29,7 @@ no_contact fault = record { fault = fault; flags = 0 }
 -- `answer` and `status` are what a call returns for this reading of the contact header
 pub record ReturnsContact (part : Part wire.Contact) (answer : Contact) (status : ℕ) : Type 0 where
   pub whole : (contact : wire.Contact) (rest : List ℕ) → part ≡ Ok (contact, rest)
-      → (status ≡ 0) × (answer ≡ contact_shown contact.flags)
+      → (status ≡ status_ok) × (answer ≡ contact_shown contact.flags)
   pub fault : (fault : WireFault) → part ≡ Err fault
       → (status ≡ wire_status fault) × (answer ≡ no_contact (wire_fault fault 0))
 
@@ -122,7 +123,8 @@ message_shown size offset found =
 
 -- TCPCLKIT_OK, or TCPCLKIT_DATA_TRUNCATED if the first `size` bytes end inside the message's data
 abbrev pub data_status : ℕ → MessageAt → ℕ
-data_status size found = if nat_le (size_of found) (size - found.end) then 0 else 3
+data_status size found =
+    if nat_le (size_of found) (size - found.end) then status_ok else status_data_truncated
 
 -- `part` is the message that was read. The numbers describe it, and its node ID, its items and its
 -- data lie where the numbers say.
@@ -203,7 +205,7 @@ pub record DescribesItem (owner : ListOf) (bytes : List ℕ) (offset left : ℕ)
   pub found : ItemAt
   pub lies : ItemLies owner bytes left offset found
   pub numbers : answer ≡ item_shown found
-  pub gives : status ≡ 0
+  pub gives : status ≡ status_ok
 
 -- `answer` and `status` are what a call returns for this reading of the item at `offset`. The list
 -- of the item has `left` bytes from there on.

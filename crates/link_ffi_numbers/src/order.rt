@@ -6,6 +6,7 @@ ghost use Rattle.link_transfer.specs.Event.{event_of};
 ghost use Rattle.link_transfer.specs.Order.{judged_message, refusal, effect_of, with_taken};
 ghost use Rattle.link_transfer.specs.Joiner.{IsJoinerAt};
 ghost use Rattle.link_ffi_numbers.specs.Order.{order_code, event_by, no_turn, turn_shown, effect_shown, fault_shown, IsOrderAt, is_in_range, ReturnsTurn, ReturnsTakenTurn};
+ghost use Rattle.link_ffi_numbers.specs.Status.{status_ok};
 
 use crate::recording;
 use crate::status::{FAULT, OK};
@@ -160,7 +161,7 @@ pub fn judge(order: &mut Order, event: Event, answer: &mut Turn) -> u32
     ensures judged { (before : List Message) → IsOrderAt order.old before
         → ReturnsTurn (judged_message before event) answer.new result }
     ensures accepted { (before : List Message) (message : Message) → event_of message ≡ event
-        → IsOrderAt order.old before → result ≡ 0
+        → IsOrderAt order.old before → result ≡ status_ok
         → IsOrderAt order.new (before ++ message ∷ []) }
     ensures refused { 0 < result → order.new ≡ order.old }
 {

@@ -6,6 +6,7 @@ use Rattle.link_run.specs.declared.run.{RunEnd.RunEnd, Status.Status}
 use Rattle.link_tools.specs.Options.{AfterTool}
 use Rattle.link_wire.specs.{Limits.longest_input, declared.IoFault.IoFault}
 use Rattle.link_wire.specs.declared.IoFault.TheVariants.{Read, InputTooLong, Write, Memory}
+use Rattle.link_ffi_numbers.specs.Status.{status_range, status_memory}
 use Rattle.link_ffi_tools.specs.Options.{blocks_numbers, blocks_in_range, blocks_in, check_numbers, check_in_range, check_in}
 use Rattle.link_ffi_tools.specs.Reading.{reading_tool}
 use Rattle.link_ffi_tools.specs.Tool.{Slices, texts_status, blocks_tool_of, check_tool_of}
@@ -142,7 +143,7 @@ module _ (wants : Wants) (old new : Slices) (output_text report_text : List ℕ)
 
   module _ (fault : IoFault)
       (numbers : run ≡ record { exit_status = 0; output_length = 0; report_length = 0 })
-      (gives : code ≡ 8) where
+      (gives : code ≡ status_memory) where
     pub err_returned : (tool : Option Tool) (bytes : List ℕ)
         → AfterSliceRun tool bytes output_text report_text (Err fault)
         → ReturnsTextsOrNothing tool bytes wants old new run code
@@ -182,6 +183,7 @@ check_is words reading is =
 
 -- a run returns no TCPCLKIT_RANGE
 pub in_range : (tool : Option Tool) (bytes : List ℕ) (wants : Wants) (old new : Slices) (run : Run)
-    (status : ℕ) → ReturnsTextsOrNothing tool bytes wants old new run status → status ≡ 6 → ⊥
-in_range (Some tool) bytes wants old new run status gave six = grind (arith, gave.gives, six)
-in_range None bytes wants old new run status gave six = omega (arith, gave.gives, six)
+    (status : ℕ) → ReturnsTextsOrNothing tool bytes wants old new run status
+    → status ≡ status_range → ⊥
+in_range (Some tool) bytes wants old new run status gave is = grind (arith, gave.gives, is)
+in_range None bytes wants old new run status gave is = omega (arith, gave.gives, is)

@@ -6,6 +6,7 @@ use Rattle.link_tool_check.specs.Bundles.{bundle_check_tool}
 use Rattle.link_tool_check.specs.Checking.{check_tool}
 use Rattle.link_run.specs.Run.{Tool, Outcome}
 use Rattle.link_tool_unpack.specs.Unpacking.{unpack_tool}
+use Rattle.link_ffi_numbers.specs.Status.{status_ok, status_too_small, status_memory}
 use Rattle.link_ffi_tools.specs.Options.{unpack_numbers, wanted_of, blocks_numbers, block_options_of, bundle_check_options_of, check_numbers, check_options_of}
 use Rattle.link_ffi_tools.specs.Slice.{HoldsPrefix, LeavesRest}
 use Rattle.link_ffi_tools.specs.declared.running.Run.{Run}
@@ -18,11 +19,12 @@ pub record Slices : Type 0 where
   pub output : List ℕ
   pub report : List ℕ
 
--- TCPCLKIT_OK (0) if each wanted text fits, and else TCPCLKIT_TOO_SMALL (5). A text is wanted if
+-- TCPCLKIT_OK if each wanted text fits, and else TCPCLKIT_TOO_SMALL. A text is wanted if
 -- its number in `wants` is not 0.
 abbrev pub texts_status : Wants → (output_fits report_fits : Bool) → ℕ
 texts_status wants output_fits report_fits =
-    if (wants.output == 0 || output_fits) && (wants.report == 0 || report_fits) then 0 else 5
+    if (wants.output == 0 || output_fits) && (wants.report == 0 || report_fits)
+    then status_ok else status_too_small
 
 -- Each slice begins with its text in `whole`, or contains the text's first bytes if it is too
 -- small. The bytes after the text are as they were. `run` contains the lengths of the whole texts,
@@ -48,12 +50,12 @@ abbrev pub ReturnsTexts : Outcome → Wants → (old new : Slices) → Run → �
 ReturnsTexts whole wants old new run status =
     ReturnsTextsBy whole wants old.output old.report new.output new.report run status
 
--- nothing was written, the numbers of `run` are 0, and TCPCLKIT_MEMORY (8) was returned
+-- nothing was written, the numbers of `run` are 0, and TCPCLKIT_MEMORY was returned
 pub record ReturnsNothing (old new : Slices) (run : Run) (status : ℕ) : Type 0 where
   pub no_output : new.output ≡ old.output
   pub no_report : new.report ≡ old.report
   pub numbers : run ≡ record { exit_status = 0; output_length = 0; report_length = 0 }
-  pub gives : status ≡ 8
+  pub gives : status ≡ status_memory
 
 -- Below, `words` are the numbers of the caller's struct after `size`. Each is in its range, as by
 -- `unpack_in_range` of Options.
