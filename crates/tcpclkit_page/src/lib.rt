@@ -9,6 +9,7 @@
 
 ghost use Rattle.std.specs.Prelude.{◌≡◌, true, false};
 ghost use Rattle.link_tool_list.specs.Listing.{list_tool};
+ghost use Rattle.link_ffi_numbers.specs.Status.{status_range};
 ghost use Rattle.link_ffi_tools.specs.Options.{unpack_in_range, blocks_in_range, check_in_range};
 ghost use Rattle.link_ffi_tools.specs.Tool.{ReturnsTexts, ReturnsUnpackTexts, ReturnsBlocksTexts, ReturnsCheckTexts};
 
@@ -55,13 +56,15 @@ pub extern "C" fn unpack(
     report: &mut [u8],
     answer: &mut Run,
 ) -> u32
-    ensures range { unpack_in_range options.now ≡ false → (result ≡ 6) × (answer.new ≡ answer.old) }
+    ensures range { unpack_in_range options.now ≡ false
+        → (result ≡ status_range) × (answer.new ≡ answer.old) }
     ensures run { unpack_in_range options.now ≡ true → ReturnsUnpackTexts options.now bytes.now
         (record { output = wants_output; report = wants_report })
         (record { output = output.old; report = report.old })
         (record { output = output.new; report = report.new })
         answer.new result }
-    ensures unwritten { result ≡ 6 → (output.new ≡ output.old) × (report.new ≡ report.old) }
+    ensures unwritten { result ≡ status_range
+        → (output.new ≡ output.old) × (report.new ≡ report.old) }
 {
     let wants = Wants {
         output: wants_output,
@@ -85,13 +88,15 @@ pub extern "C" fn blocks(
     report: &mut [u8],
     answer: &mut Run,
 ) -> u32
-    ensures range { blocks_in_range options.now ≡ false → (result ≡ 6) × (answer.new ≡ answer.old) }
+    ensures range { blocks_in_range options.now ≡ false
+        → (result ≡ status_range) × (answer.new ≡ answer.old) }
     ensures run { blocks_in_range options.now ≡ true → ReturnsBlocksTexts options.now bytes.now
         (record { output = wants_output; report = wants_report })
         (record { output = output.old; report = report.old })
         (record { output = output.new; report = report.new })
         answer.new result }
-    ensures unwritten { result ≡ 6 → (output.new ≡ output.old) × (report.new ≡ report.old) }
+    ensures unwritten { result ≡ status_range
+        → (output.new ≡ output.old) × (report.new ≡ report.old) }
 {
     let wants = Wants {
         output: wants_output,
@@ -115,13 +120,15 @@ pub extern "C" fn check(
     report: &mut [u8],
     answer: &mut Run,
 ) -> u32
-    ensures range { check_in_range options.now ≡ false → (result ≡ 6) × (answer.new ≡ answer.old) }
+    ensures range { check_in_range options.now ≡ false
+        → (result ≡ status_range) × (answer.new ≡ answer.old) }
     ensures run { check_in_range options.now ≡ true → ReturnsCheckTexts options.now bytes.now
         (record { output = wants_output; report = wants_report })
         (record { output = output.old; report = report.old })
         (record { output = output.new; report = report.new })
         answer.new result }
-    ensures unwritten { result ≡ 6 → (output.new ≡ output.old) × (report.new ≡ report.old) }
+    ensures unwritten { result ≡ status_range
+        → (output.new ≡ output.old) × (report.new ≡ report.old) }
 {
     let wants = Wants {
         output: wants_output,
