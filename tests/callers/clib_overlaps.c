@@ -39,6 +39,7 @@ static struct tcpclkit_more_options more_options;
 static struct tcpclkit_message ack, init;
 static struct tcpclkit_bundle fields;
 static struct tcpclkit_crc begun;
+static const uint8_t zero[] = {0};
 static const struct tcpclkit_sent sent = {7, 0, 0, 0, 0};
 static const struct tcpclkit_eid eid = {TCPCLKIT_EID_DTN, 0, 0, 0, 4};
 static const struct tcpclkit_block primary = {1, 1, 21, 0, 0, 4, 0, 0, 0, 0};
@@ -207,7 +208,9 @@ static const struct call calls[] = {
     {"write_primary", write_primary, 6,
      {INTO(99), STRUCT(bundle, READ, &fields), BYTES(name), BYTES(name), BYTES(name)}},
     {"write_block_head", write_block_head, 3, {INTO(54), STRUCT(block, READ, &counting)}},
-    {"feed_check", feed_check, 2, {STRUCT(crc, WRITTEN, &begun), BYTES(bundle)}},
+    /* Over the check, its own bytes leave its numbers in range. Over its end, so does a byte 00. */
+    {"feed_check", feed_check, 2, {STRUCT(crc, WRITTEN, &begun), {sizeof begun, READ, 1, &begun}}},
+    {"feed_check", feed_check, 2, {STRUCT(crc, WRITTEN, &begun), BYTES(zero)}},
     {"end_check", end_check, 2, {NUMBER(CLEARED), STRUCT(crc, READ, &begun)}},
     {"write_check", write_check, 3, {INTO(5), STRUCT(crc, READ, &begun)}},
     {"write_eid", write_eid, 4, {INTO(9), STRUCT(eid, READ, &eid), BYTES(name)}},
