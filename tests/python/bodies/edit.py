@@ -102,12 +102,19 @@ class Edit:
         try:
             if not self.problem:
                 self.texts = self.apply(lambda file: read(f"{folder}/{file}"))
+                self._find_change(folder)
                 self._find_function(folder)
         except (OSError, ValueError, Unfit) as error:
             self.problem = str(error)
         except source.Broken:
             # The edit leaves a bracket open. It is tried alone.
             pass
+
+    def _find_change(self, folder):
+        """Refuses an edit that leaves a file as it is: one pair may turn back another."""
+        for file, text in self.texts.items():
+            if text == read(f"{folder}/{file}"):
+                raise Unfit(f"it does not change {file}")
 
     def _find_function(self, folder):
         """Finds the function that the edit changes, if it changes nothing else."""
