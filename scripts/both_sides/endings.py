@@ -22,9 +22,8 @@ PRIVATE = 0xF0
 # The types of which a side may send the first message after its SESS_TERM
 LATE = ACK, REFUSE, KEEPALIVE, REJECT
 
-# Reasons of SESS_TERM and of MSG_REJECT (sections 6.1 and 5.1.2)
+# Reasons of SESS_TERM (section 6.1)
 VERSION_MISMATCH, CONTACT_FAILURE = 0x02, 0x04
-TYPE_UNKNOWN, UNEXPECTED = 0x01, 0x03
 
 
 def judge_contact(side, are_begun):
@@ -256,9 +255,8 @@ def is_missed(side, segment):
 
 
 def level_of(side, segment):
-    """Returns the level of a missing XFER_ACK. In an unclean end after a SESS_TERM, a side only should
-    acknowledge all segments (RFC 9174 section 6.1)."""
-    return side.level_of_missing() if side.answered > segment.offset and not side.terms else SHOULD
+    """Returns the level of a missing XFER_ACK. It is a must only if a later segment is answered."""
+    return side.level_of_missing() if side.answered > segment.offset else SHOULD
 
 
 # ---- answers to nothing

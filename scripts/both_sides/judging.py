@@ -34,6 +34,9 @@ NODE = re.compile(rf"dtn://{NAME}/{URI}|ipn:\d+\.\d+(\.\d+)?", re.ASCII | re.IGN
 # The rules of `check` that the beginning of a session decides, beside its SESS_INIT
 OF_BEGINNING = ("transfer-id-order", "answer-order", "keepalive")
 
+# The reason of a MSG_REJECT after which its side closes the connection (RFC 9174 section 5.1.2)
+TYPE_UNKNOWN = 0x01
+
 # The texts of `order` that accuse nobody in a recording without its beginning: a SESS_INIT was made for it,
 # and until the first START, a segment may belong to a transfer that began before
 SECOND_INIT, NO_TRANSFER = "fault=second-session-initiation", "fault=no-such-open-transfer"
@@ -160,6 +163,7 @@ def take(side, are_begun):
         side.first_start = message.offset
     if kind == REJECT:
         side.rejects.setdefault(message.header, message.offset)
+        side.has_given_up |= message.reason == TYPE_UNKNOWN and not SEGMENT <= message.header <= INIT
     if not are_begun:
         return
     came = side.clock.came(message) if side.clock else None

@@ -164,7 +164,8 @@ class Side:
                KEEPALIVE, and `first_use` its first segment, XFER_ACK or XFER_REFUSE
     types      the type bytes of its messages, each with its first offset
     rejects    the type bytes that it rejected, each with its first offset, and `of_segments` how
-               many MSG_REJECT are of XFER_SEGMENT
+               many MSG_REJECT are of XFER_SEGMENT. `has_given_up` is whether one rejects an unknown
+               type, so that this side has to close the connection
     unknown    the type bytes of its answers to nothing, each with its first offset
     accepted   by ID, the other side's transfers of a wrong length that it acknowledged to their END
     retries    its transfers that were refused, by the digest of their data
@@ -185,6 +186,7 @@ class Side:
         self.over, self.refused, self.strays, self.taken = Ranges(), Ranges(), Ranges(), Ranges()
         self.waiting, self.terms, self.asked, self.types, self.rejects, self.of_segments = {}, {}, None, {}, {}, 0
         self.accepted, self.retries, self.differing, self.choices = {}, {}, {}, TRIED
+        self.has_given_up = False
         self.inits, self.first, self.first_start, self.first_segment, self.first_use = [], None, None, None, None
         self.refused_ending, self.first_keepalive, self.file = None, None, None
         self.lines, self.claims, self.of_answers, self.unknown = [], [], {}, {}
@@ -250,8 +252,11 @@ class Side:
 
     def level_of_missing(self):
         """Returns the level of a line for a message that the recording lacks at its end. It is a must
-        only if the other side had not closed the connection before."""
-        return MUST if self.closed_first() else SHOULD
+        only if the other side had not closed the connection before, and this side was not free to
+        close it at once. It is after its SESS_TERM (RFC 9174 section 6.1), and it has to close after
+        a MSG_REJECT of an unknown type (sections 5.1.2 and 8.5)."""
+        is_free = bool(self.terms) or self.has_given_up
+        return MUST if self.closed_first() and not is_free else SHOULD
 
     def has_accepted(self):
         """Returns whether a capture shows that this side accepted the connection. Then it shows where

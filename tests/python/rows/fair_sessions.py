@@ -6,7 +6,7 @@ wrong, and a pair that is one step away, in which they do prove it. The form is 
 
 import make
 
-from .more_sessions import LATE, THREE, THREE_ACKED
+from .more_sessions import LATE, THREE, THREE_ACKED, UNKNOWN
 from .sessions import (
     A, ACKED, ALIVE, B, CRITICAL, DATA, END, HALF, HEADER, LONGER, OTHER, REJECTED, REPLIED, SIZE, START, TERM,
     acked, bare, bundle, first, init, last, pair, refused, whole,
@@ -144,14 +144,40 @@ FAIR = {
     "a wrong length is not refused, and the other side may have closed first": (
         pair([ALIVE, first(0, DATA[:HALF], LONGER), last(), TERM], [*ACKED, REPLIED], DIFFERS,
              f"b {{b3}} should length-not-refused id=0 announced={SIZE + 1} length={SIZE}", options="--closed ab"),
-        pair([ALIVE, first(0, DATA[:HALF], LONGER), last(), TERM], [*ACKED, REPLIED], DIFFERS,
+        pair([ALIVE, first(0, DATA[:HALF], LONGER), last()], [*ACKED], DIFFERS,
              f"b {{b3}} must length-not-refused id=0 announced={SIZE + 1} length={SIZE}", options="--closed b"),
     ),
     "a second SESS_INIT is not rejected, and the other side may have closed first": (
         pair([A, whole(), TERM], [acked(), REPLIED], "a {a2} should order fault=second-session-initiation",
              "b {b-end} should not-rejected type=07 peer-at={a2}", options="--closed ab"),
-        pair([A, whole(), TERM], [acked(), REPLIED], "a {a2} should order fault=second-session-initiation",
+        pair([A, whole()], [acked()], "a {a2} should order fault=second-session-initiation",
              "b {b-end} must not-rejected type=07 peer-at={a2}", options="--closed b"),
+    ),
+    # ---- a side may close the connection after its SESS_TERM (section 6.1), and has to do so after a
+    # MSG_REJECT of an unknown type (sections 5.1.2 and 8.5)
+    "a wrong length is not refused, in an unclean end": (
+        pair([ALIVE, first(0, DATA[:HALF], LONGER), last()], [*ACKED, TERM], DIFFERS,
+             f"b {{b3}} should length-not-refused id=0 announced={SIZE + 1} length={SIZE}", options="--closed b"),
+        pair([ALIVE, first(0, DATA[:HALF], LONGER), last()], [*ACKED, ALIVE], DIFFERS,
+             f"b {{b3}} must length-not-refused id=0 announced={SIZE + 1} length={SIZE}", options="--closed b"),
+    ),
+    "a second SESS_INIT is not rejected, in an unclean end": (
+        pair([A, whole()], [acked(), TERM], "a {a2} should order fault=second-session-initiation",
+             "b {b-end} should not-rejected type=07 peer-at={a2}", options="--closed b"),
+        pair([A, whole()], [acked(), ALIVE], "a {a2} should order fault=second-session-initiation",
+             "b {b-end} must not-rejected type=07 peer-at={a2}", options="--closed b"),
+    ),
+    "a SESS_TERM is unanswered, and an unknown type ends the session": (
+        pair([first(), TERM, last(), UNKNOWN], [*ACKED, REJECTED(1, 0x20)],
+             "b {b-end} should term-unanswered peer-at={a3}", status=3, options="--closed b"),
+        pair([first(), TERM, last(), ALIVE], [*ACKED, REJECTED(2, 0x04)],
+             "b {b-end} must term-unanswered peer-at={a3}", options="--closed b"),
+    ),
+    "an answer is missing, and an unknown type ends the session": (
+        pair([whole(), whole(1), UNKNOWN], [acked(1), REJECTED(1, 0x20)],
+             "b {b-end} should ack-missing id=0 peer-at={a2}", status=3, options="--closed b"),
+        pair([whole(), whole(1), ALIVE], [acked(1), REJECTED(1, 0x04)], "b {b3} should reject-known reason=01 header=04",
+             "b {b-end} must ack-missing id=0 peer-at={a2}", options="--closed b"),
     ),
     # ---- the state Ending (sections 3.1, 3.3 and 6.1)
     "a transfer before the own SESS_TERM": (

@@ -127,7 +127,7 @@ BROKEN = {
     "an answer to nothing, known by a later answer": pair(
         [whole(), acked()], [acked(7), acked(), whole()], "b {b2} must ack-unknown id=7"),
     "an answer to nothing that was seen": pair(
-        [whole(), acked(), TERM], [acked(7), acked(), whole(), REPLIED], "a {a-end} must not-rejected type=02 peer-at={b2}",
+        [whole(), acked()], [acked(7), acked(), whole()], "a {a-end} must not-rejected type=02 peer-at={b2}",
         "b {b2} must ack-unknown id=7", options="--closed a"),
     "an answer to nothing that may not have been seen": pair(
         [whole(), TERM], [acked(7), acked(), REPLIED], "a {a-end} should not-rejected type=02 peer-at={b2}",

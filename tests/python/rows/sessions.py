@@ -185,7 +185,7 @@ RULES = {
         pair([first(), last(), TERM], [ACKED[0], refused(), REPLIED]),
     ),
     "length-not-refused": (
-        pair([first(0, DATA[:HALF], LONGER), last(), TERM], [*ACKED, REPLIED],
+        pair([first(0, DATA[:HALF], LONGER), last()], [*ACKED],
              f"a {{a2}} must length-differs transfer=0 announced={SIZE + 1} length={SIZE}",
              f"b {{b3}} must length-not-refused id=0 announced={SIZE + 1} length={SIZE}", options="--closed b"),
         pair([first(0, DATA[:HALF], LONGER), last(), TERM], [ACKED[0], refused(0, 4), REPLIED],
@@ -210,7 +210,7 @@ RULES = {
         pair([whole(), ALIVE, TERM], [acked(), REJECTED(2, 4), REPLIED]),
     ),
     "not-rejected": (
-        pair([A, whole(), TERM], [acked(), REPLIED], "a {a2} should order fault=second-session-initiation",
+        pair([A, whole()], [acked()], "a {a2} should order fault=second-session-initiation",
              "b {b-end} must not-rejected type=07 peer-at={a2}", options="--closed b"),
         pair([A, whole(), TERM], [REJECTED(3, 7), acked(), REPLIED],
              "a {a2} should order fault=second-session-initiation"),
