@@ -7,7 +7,7 @@ from .facts import ACK, END, REFUSE, START
 from .pairing import counted, paired, pairing
 from .sending import claim_left, drop, is_critical, note_refused
 from .sides import KEPT, MUST, SHOULD, can_take
-from .timed import early
+from .timed import early, early_sum
 
 # Flags that are defined (RFC 9174 section 5.2.2), and reasons of XFER_REFUSE (section 5.2.4)
 DEFINED = START | END
@@ -143,6 +143,7 @@ def strange(side, transfer, message):
     once there are as many as segments, if they can answer these, or if one of them has END."""
     transfer.strange.append(message)
     transfer.free[message.flags] -= 1
+    early_sum(side, transfer, message)
     if transfer.is_counted:
         side.other.unanswered -= 1
     last = transfer.pending[-1]

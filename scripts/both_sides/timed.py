@@ -1,5 +1,7 @@
 """The rules that need to know when bytes were captured (RFC 9174 sections 5.1.1 and 5.2.3)."""
 
+from itertools import islice
+
 from .facts import TERM, Listing, Times
 from .sides import KEPT, MUST, SHOULD, SLACK, Came
 
@@ -96,6 +98,18 @@ def early(side, transfer, message, segment, came):
         before = spelled(segment.came - came.first)
         words = f"id={transfer.ident} peer-at={segment.offset} early={before}"
         side.claim(message.offset, SHOULD, "ack-early", words, about=transfer)
+
+
+def early_sum(side, transfer, message):
+    """Judges that an XFER_ACK that is not the one that is due counts no segment that had not begun to
+    arrive. It counts a segment if its length is above the sum before that one."""
+    if side.captured is None or transfer.again is not None or message.length > transfer.total:
+        return
+    counted = (it for it in islice(reversed(transfer.pending), KEPT) if it.total - it.length < message.length)
+    segment, seen = next(counted, None), side.captured.shown.arrived.at(message.end - 1)
+    if segment is not None and seen is not None and seen <= segment.offset:
+        words = f"id={transfer.ident} seen={seen} peer-at={segment.offset}"
+        side.claim(message.offset, MUST, "ack-early", words, about=transfer)
 
 
 def idle(side, tcpclkit):

@@ -9,6 +9,7 @@ import random
 import sys
 from typing import NamedTuple, Optional
 
+import make
 from capture import ACK, FIN, RST, SYN
 
 from .capture import NUMBERS, Link, Segment, noted, pcap
@@ -17,7 +18,7 @@ from .common import SEED, TOP, empty_room, run, write
 sys.path[:0] = [f"{TOP}/tests/python", f"{TOP}/scripts"]
 
 from tcpclkit_scripts.shown import Arrived
-from rows.sessions import A, ALIVE, B, HEADER, REPLIED, SIZE, TERM, acked, whole
+from rows.sessions import A, ACKED, ALIVE, B, HEADER, REPLIED, SIZE, START, TERM, acked, first, last, whole
 
 LINK = Link((49152, NUMBERS - 70), (4556, NUMBERS - 60))
 WIDE, OTHER = 65535, {"a": "b", "b": "a"}
@@ -95,6 +96,10 @@ SEGMENT, ANSWER = whole(), acked()
 CUT = len(SEGMENT) // 2
 END = FIRST + len(SEGMENT)
 
+# A transfer in two segments, and an XFER_ACK of the first one that counts the second one too
+MIDDLE, WHOLE_SUM = FIRST + len(first()), acked(0, START, SIZE)
+SECOND = [Turn(1.2, "a", last()), Turn(1.3, "b", ACKED[1])]
+
 
 def early(seen):
     """Returns the line of an XFER_ACK that came when that many bytes had arrived."""
@@ -156,6 +161,20 @@ EARLY = {
             Turn(1.2, "b", ANSWER[:-1], at=FIRST, seen=END),
         ],
         early(FIRST),
+    ),
+    "it counts the next segment, of which no byte had arrived": (
+        [Turn(1, "a", first()), Turn(1.1, "b", WHOLE_SUM, seen=MIDDLE), *SECOND],
+        [f"b {FIRST} must ack-early id=0 seen={MIDDLE} peer-at={MIDDLE}"],
+    ),
+    "it counts the next segment, of which a byte had arrived": (
+        [Turn(1, "a", first()), Turn(1.1, "b", WHOLE_SUM, seen=MIDDLE + 1), *SECOND], []
+    ),
+    "an empty segment is acknowledged before the one that it follows": (
+        [
+            Turn(1, "a", first()), Turn(1.05, "a", make.xfer_segment(0, 0, b"")),
+            Turn(1.1, "b", acked(0, 0, SIZE // 2)), Turn(1.15, "b", ACKED[0]), *SECOND,
+        ],
+        [f"b {FIRST} should answer-order id=0 fault=not-in-order"],
     ),
 }
 
