@@ -7,6 +7,7 @@ use Rattle.link_transfer.specs.Announced.{announced_of}
 use Rattle.link_transfer.specs.declared.announcement.Announced.{Announced}
 use Rattle.link_transfer.specs.declared.announcement.Announced.TheVariants.{Absent, Total, Malformed}
 use Rattle.link_ffi_numbers.specs.Recording.{has_list_at}
+use Rattle.link_ffi_numbers.specs.Status.{status_ok, status_range}
 use Rattle.link_ffi_numbers.specs.declared.recording.Message.{Message}
 use Rattle.tcpclkit_c.specs.declared.announced.AnnouncedNumbers.{AnnouncedNumbers}
 
@@ -28,5 +29,6 @@ announced_part (Err fault) = None
 -- The numbers of the announcement are returned, with TCPCLKIT_OK. If the bytes are no list, nothing
 -- is written, and the status is TCPCLKIT_RANGE.
 abbrev pub ReturnsAnnounced : Option Announced → (old new : AnnouncedNumbers) → ℕ → Type 0
-ReturnsAnnounced None old new status = (status ≡ 6) × (new ≡ old)
-ReturnsAnnounced (Some announced) old new status = (status ≡ 0) × (new ≡ announced_shown announced)
+ReturnsAnnounced None old new status = (status ≡ status_range) × (new ≡ old)
+ReturnsAnnounced (Some announced) old new status =
+    (status ≡ status_ok) × (new ≡ announced_shown announced)

@@ -4,6 +4,7 @@ use Rattle.link_wire.specs.declared.message.Fields.{Fields}
 use Rattle.link_transfer_answer_judge.specs.Answers.{answer_of, judged_answer, after_answer, HasLengthOfLastAck}
 use Rattle.link_transfer_answer_judge.specs.declared.answers.{Answer.Answer, AnswerFault.AnswerFault, Sent.Sent}
 use Rattle.link_ffi_numbers.specs.Fault.{answer_code}
+use Rattle.link_ffi_numbers.specs.Status.{status_ok, status_fault}
 use Rattle.link_ffi_numbers.specs.declared.recording.Message.{Message}
 use Rattle.link_ffi_writer.specs.Messages.{HasFields}
 use Rattle.tcpclkit_c.specs.declared.answer.SentNumbers.{SentNumbers}
@@ -36,8 +37,8 @@ IsThisAnswerOrNoAnswer it None = IsNotAnswerMessage it
 
 -- the code of what is wrong with an answer, and TCPCLKIT_OK or TCPCLKIT_FAULT
 abbrev pub answer_numbers : Result (Unit {0}) AnswerFault → ℕ × ℕ
-answer_numbers (Ok _) = (0, 0)
-answer_numbers (Err fault) = (answer_code fault, 4)
+answer_numbers (Ok _) = (0, status_ok)
+answer_numbers (Err fault) = (answer_code fault, status_fault)
 
 -- An answer was judged by what was sent. If it was accepted, it was counted, and the status is
 -- TCPCLKIT_OK. `older` are the answers that were accepted before, the newest first.
@@ -48,5 +49,5 @@ pub record ReturnsJudgedPeerAnswer (before : Sent) (answer : Answer) (old new : 
     fault = (answer_numbers (judged_answer before answer)).0;
   }
   pub returns : status ≡ (answer_numbers (judged_answer before answer)).1
-  pub counts : (older : List Answer) → HasLengthOfLastAck before older → status ≡ 0
+  pub counts : (older : List Answer) → HasLengthOfLastAck before older → status ≡ status_ok
       → HasLengthOfLastAck (after_answer before answer) (answer ∷ older)

@@ -7,6 +7,7 @@ use Rattle.link_bundle_types.specs.declared.info.BundleInfo.{BundleInfo}
 use Rattle.link_bundle_blocks.specs.Bundle.{state_of}
 use Rattle.link_bundle_blocks.specs.Primary.{AcceptedPrimaryFields}
 use Rattle.link_ffi_numbers.specs.Bundle.{state_status, verdict_shown, eid_or_none, name_of, name_or_none, primary_shown, bundle_shown}
+use Rattle.link_ffi_numbers.specs.Status.{status_ok, status_too_small}
 use Rattle.link_ffi_numbers.specs.declared.bundle.Bundle.{Bundle}
 use Rattle.link_ffi_numbers.specs.declared.bundle.EidNumbers.{EidNumbers}
 use Rattle.link_ffi_numbers.specs.declared.bundle.Verdict.{Verdict}
@@ -48,7 +49,8 @@ abbrev pub names_status : (names slices : Names) → ℕ
 names_status names slices =
     if nat_le (length names.destination) (length slices.destination)
     && (nat_le (length names.source) (length slices.source)
-    && nat_le (length names.report_to) (length slices.report_to)) then 0 else 5
+    && nat_le (length names.report_to) (length slices.report_to))
+    then status_ok else status_too_small
 
 -- What is returned for a good bundle: its numbers, and its names in the slices, as far as there is
 -- room. The status says whether all names fit.

@@ -3,6 +3,7 @@ use Rattle.std.specs.Prelude.{◌≡◌, ◌⊎◌, ℕ, ◌<◌, List, take, dr
 use Rattle.link_bundle_types.specs.declared.eid.Eid.{Eid}
 use Rattle.link_report_eid_parser.specs.TextOf.{IsTextOf, IsNoText}
 use Rattle.link_ffi_numbers.specs.Bundle.{no_eid, eid_shown, name_of}
+use Rattle.link_ffi_numbers.specs.Status.{status_ok, status_too_small, status_range}
 use Rattle.link_ffi_numbers.specs.declared.bundle.EidNumbers.{EidNumbers}
 
 -- TCPCLKIT_OK: the endpoint ID with these numbers has this text. The slice begins with its name,
@@ -29,11 +30,11 @@ pub record ReturnsNoEid (text old slice : List ℕ) (numbers : EidNumbers) : Typ
   pub numbers_are : numbers ≡ no_eid
   pub same : slice ≡ old
 
--- What the call that reads a text returns, case by case of its status: TCPCLKIT_OK (0),
--- TCPCLKIT_TOO_SMALL (5) or TCPCLKIT_RANGE (6).
+-- What the call that reads a text returns, case by case of its status: TCPCLKIT_OK,
+-- TCPCLKIT_TOO_SMALL or TCPCLKIT_RANGE.
 pub record ReturnsEidOfText (text old slice : List ℕ) (numbers : EidNumbers) (status : ℕ)
     : Type 0 where
-  pub read : status ≡ 0 → ReturnsFittingEid text old slice numbers
-  pub too_small : status ≡ 5 → ReturnsEidLongerThanSlice text old slice numbers
-  pub range : status ≡ 6 → ReturnsNoEid text old slice numbers
-  pub one : (status ≡ 0) ⊎ ((status ≡ 5) ⊎ (status ≡ 6))
+  pub read : status ≡ status_ok → ReturnsFittingEid text old slice numbers
+  pub too_small : status ≡ status_too_small → ReturnsEidLongerThanSlice text old slice numbers
+  pub range : status ≡ status_range → ReturnsNoEid text old slice numbers
+  pub one : (status ≡ status_ok) ⊎ ((status ≡ status_too_small) ⊎ (status ≡ status_range))

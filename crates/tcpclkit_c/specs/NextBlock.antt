@@ -6,6 +6,7 @@ use Rattle.link_bundle_blocks.specs.Bundle.{bundle_goes, blocks_in}
 use Rattle.link_bundle.specs.Scan.{HasScanned, ending}
 use Rattle.link_bundle.specs.declared.scan.BundleScan.{BundleScan}
 use Rattle.link_ffi_numbers.specs.Block.{no_block, first_shown}
+use Rattle.link_ffi_numbers.specs.Status.{status_range}
 use Rattle.link_ffi_numbers.specs.declared.block.BlockNumbers.{BlockNumbers}
 use Rattle.tcpclkit_c.specs.Scan.{IsMarkedScanAt, mark, has_room, status_after}
 use Rattle.tcpclkit_c.specs.declared.scan.MarkedScan.{MarkedScan}
@@ -51,7 +52,7 @@ pub record FeedsToBlockEndIfAnyScan (old : MarkedScan) (piece : List ℕ) (new :
   pub scan : (seen : List ℕ) → IsMarkedScanAt old seen
       → FeedsToBlockEnd seen piece new taken block status
   pub other : (old.mark ≡ mark → ⊥)
-      → (status ≡ 6) × (taken ≡ 0) × (new ≡ old) × (block ≡ no_block)
+      → (status ≡ status_range) × (taken ≡ 0) × (new ≡ old) × (block ≡ no_block)
 
 -- A scan that has room for the piece has taken `count` bytes of it, up to the end of a block. If
 -- `count` is 0, no block is added. Else the block is added that ends with the last of these bytes,

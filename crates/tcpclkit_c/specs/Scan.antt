@@ -9,6 +9,7 @@ use Rattle.link_bundle.specs.Scan.{HasScanned}
 use Rattle.link_bundle_blocks.specs.PrimaryFields.{primary_fields}
 use Rattle.link_ffi_numbers.specs.Block.{no_block, cut_shown}
 use Rattle.link_ffi_numbers.specs.Bundle.{state_status, ReturnsVerdict}
+use Rattle.link_ffi_numbers.specs.Status.{status_ok, status_end, status_range, status_scan_ended}
 use Rattle.link_ffi_numbers.specs.declared.block.BlockNumbers.{BlockNumbers}
 use Rattle.tcpclkit_c.specs.Bundle.{Names, ReturnsBundleOrFault}
 use Rattle.tcpclkit_c.specs.contracts.scan.MarkedScan.{the_row}
@@ -58,7 +59,9 @@ is_late seen piece = not (bundle_goes seen) && nat_lt 0 (length piece)
 abbrev pub status_after : (seen piece run : List ℕ) → ℕ
 status_after seen piece run =
     if has_room seen piece
-    then (if is_late seen piece then 9 else state_status (state_of (verdict (seen ++ run)))) else 6
+    then (if is_late seen piece then status_scan_ended
+    else state_status (state_of (verdict (seen ++ run))))
+    else status_range
 
 -- the status after a scan took the bytes `fed` of the next piece
 abbrev pub fed_status : (seen piece : List ℕ) → ℕ
@@ -81,7 +84,7 @@ may_end seen count =
 -- (`rest`), whatever `rest` contains. If `may_end` is false, nothing is written, and the status is
 -- TCPCLKIT_RANGE.
 pub record EndsScan (seen : List ℕ) (count : ℕ) (old new : Verdict) (status : ℕ) : Type 0 where
-  pub range : may_end seen count ≡ false → (status ≡ 6) × (new ≡ old)
+  pub range : may_end seen count ≡ false → (status ≡ status_range) × (new ≡ old)
   pub gives : may_end seen count ≡ true → (rest : List ℕ) → length (seen ++ rest) ≡ count
       → ReturnsVerdict (seen ++ rest) new status
 
@@ -89,7 +92,7 @@ pub record EndsScan (seen : List ℕ) (count : ℕ) (old new : Verdict) (status 
 -- TCPCLKIT_END
 pub record ReturnsCutBlock (seen : List ℕ) (block : BlockNumbers) (status : ℕ) : Type 0 where
   pub numbers : block ≡ cut_shown (length seen) (cut_block_in seen)
-  pub gives : status ≡ (if is_some (cut_block_in seen) then 0 else 1)
+  pub gives : status ≡ (if is_some (cut_block_in seen) then status_ok else status_end)
 
 -- ---- memory that may have no scan
 
@@ -98,27 +101,27 @@ pub record ReturnsCutBlock (seen : List ℕ) (block : BlockNumbers) (status : �
 pub record FeedsScanIfAny (old : MarkedScan) (piece : List ℕ) (new : MarkedScan)
     (taken status : ℕ) : Type 0 where
   pub scan : (seen : List ℕ) → IsMarkedScanAt old seen → Feeds seen piece new taken status
-  pub other : (old.mark ≡ mark → ⊥) → (status ≡ 6) × (taken ≡ 0) × (new ≡ old)
+  pub other : (old.mark ≡ mark → ⊥) → (status ≡ status_range) × (taken ≡ 0) × (new ≡ old)
 
 -- The verdict on the bytes seen is returned. Without the mark, nothing is written, and the status
 -- is TCPCLKIT_RANGE.
 pub record JudgesIfAnyScan (held : MarkedScan) (old new : Verdict) (status : ℕ) : Type 0 where
   pub scan : (seen : List ℕ) → IsMarkedScanAt held seen → ReturnsVerdict seen new status
-  pub other : (held.mark ≡ mark → ⊥) → (status ≡ 6) × (new ≡ old)
+  pub other : (held.mark ≡ mark → ⊥) → (status ≡ status_range) × (new ≡ old)
 
 -- `EndsScan` for memory that may have no scan. Without the mark, nothing is written, and the status
 -- is TCPCLKIT_RANGE.
 pub record EndsScanIfAny (held : MarkedScan) (count : ℕ) (old new : Verdict) (status : ℕ)
     : Type 0 where
   pub scan : (seen : List ℕ) → IsMarkedScanAt held seen → EndsScan seen count old new status
-  pub other : (held.mark ≡ mark → ⊥) → (status ≡ 6) × (new ≡ old)
+  pub other : (held.mark ≡ mark → ⊥) → (status ≡ status_range) × (new ≡ old)
 
 -- `ReturnsCutBlock` for memory that may have no scan. Without the mark, no block is written, and
 -- the status is TCPCLKIT_RANGE.
 pub record ReturnsCutBlockIfAnyScan (held : MarkedScan) (block : BlockNumbers) (status : ℕ)
     : Type 0 where
   pub scan : (seen : List ℕ) → IsMarkedScanAt held seen → ReturnsCutBlock seen block status
-  pub other : (held.mark ≡ mark → ⊥) → (status ≡ 6) × (block ≡ no_block)
+  pub other : (held.mark ≡ mark → ⊥) → (status ≡ status_range) × (block ≡ no_block)
 
 -- The verdict, the fields and the names of the seen bytes are returned. Without the mark, nothing
 -- is written, and the status is TCPCLKIT_RANGE.
@@ -128,4 +131,4 @@ pub record DescribesIfAnyScan (held : MarkedScan) (old_names names : Names) (old
       → ReturnsBundleOrFault (verdict seen) (payload_seen seen)
       (primary_fields seen) old_names names new
       status
-  pub other : (held.mark ≡ mark → ⊥) → (status ≡ 6) × (new ≡ old) × (names ≡ old_names)
+  pub other : (held.mark ≡ mark → ⊥) → (status ≡ status_range) × (new ≡ old) × (names ≡ old_names)

@@ -11,6 +11,7 @@ use Rattle.link_report.specs.Fault.{wire_text, order_text}
 use Rattle.link_report.specs.Reason.{name_of}
 use Rattle.link_transfer_answer_judge.specs.declared.answers.AnswerFault.{AnswerFault}
 use Rattle.link_transfer_answer_judge.specs.declared.answers.AnswerFault.TheVariants as answer
+use Rattle.link_ffi_numbers.specs.Status.{status_ok, status_too_small, status_range}
 use Rattle.link_ffi_numbers.specs.declared.block.BlockNumbers.{BlockNumbers}
 use Rattle.link_ffi_numbers.specs.declared.named.Named.{Named}
 use Rattle.link_ffi_numbers.specs.declared.named.Named.TheVariants as named
@@ -68,9 +69,9 @@ pub record ReturnsThisText (text old slice : List ℕ) (written status : ℕ) : 
   pub front : HoldsPrefix slice text
   pub rest : LeavesRest old slice text
   pub count : written ≡ min (length text) (length slice)
-  pub fits : status ≡ (if nat_le (length text) (length slice) then 0 else 5)
+  pub fits : status ≡ (if nat_le (length text) (length slice) then status_ok else status_too_small)
 
 -- the text, or TCPCLKIT_RANGE if there is none
 abbrev pub ReturnsText : Option (List ℕ) → (old slice : List ℕ) → (written status : ℕ) → Type 0
-ReturnsText None old slice written status = status ≡ 6
+ReturnsText None old slice written status = status ≡ status_range
 ReturnsText (Some text) old slice written status = ReturnsThisText text old slice written status

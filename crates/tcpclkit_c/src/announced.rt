@@ -3,6 +3,7 @@
 ghost use Rattle.std.specs.Prelude.{◌≡◌, ◌≤◌, true, false, length, drop};
 ghost use Rattle.link_wire.specs.Message.{items_of};
 ghost use Rattle.link_wire.specs.declared.message.ListOf.TheVariants.{Transfer};
+ghost use Rattle.link_ffi_numbers.specs.Status.{status_range};
 ghost use Rattle.tcpclkit_c.specs.Announced.{may_announce, announced_shown, announced_part, ReturnsAnnounced};
 
 use link_ffi_numbers::recording::{Message, has_list_at};
@@ -75,7 +76,7 @@ pub extern "C" fn tcpclkit_raw_read_announced(
     answer: &mut AnnouncedNumbers,
 ) -> u32
     ensures range { may_announce (length bytes.now) message.now ≡ false
-        → (result ≡ 6) × (answer.new ≡ answer.old) }
+        → (result ≡ status_range) × (answer.new ≡ answer.old) }
     ensures answer { may_announce (length bytes.now) message.now ≡ true
         → ReturnsAnnounced
         (announced_part (items_of Transfer message.now.items_length

@@ -2,6 +2,7 @@
 
 ghost use Rattle.std.specs.Prelude.{◌≡◌, Some, None};
 ghost use Rattle.link_transfer_answer_judge.specs.declared.answers.{Answer.Answer, Sent.Sent};
+ghost use Rattle.link_ffi_numbers.specs.Status.{status_range};
 ghost use Rattle.tcpclkit_c.specs.Answer.{sent_by, answer_numbers, IsThisAnswerOrNoAnswer, IsMessageOfAnswer, IsNotAnswerMessage, ReturnsJudgedPeerAnswer};
 
 use link_ffi_numbers::fault::answer_code;
@@ -69,8 +70,9 @@ pub extern "C" fn tcpclkit_raw_judge_answer(sent: &mut SentNumbers, message: &Me
     ensures answer { (before : Sent) (answer : Answer) → sent_by sent.old ≡ Some before
         → IsMessageOfAnswer message.now answer
         → ReturnsJudgedPeerAnswer before answer sent.old sent.new result }
-    ensures whole { sent_by sent.old ≡ None → (result ≡ 6) × (sent.new ≡ sent.old) }
-    ensures range { IsNotAnswerMessage message.now → (result ≡ 6) × (sent.new ≡ sent.old) }
+    ensures whole { sent_by sent.old ≡ None → (result ≡ status_range) × (sent.new ≡ sent.old) }
+    ensures range { IsNotAnswerMessage message.now
+        → (result ≡ status_range) × (sent.new ≡ sent.old) }
 {
     let Some(mut its) = sent_by(sent) else {
         return RANGE;

@@ -5,6 +5,7 @@ ghost use Rattle.link_wire.specs.declared.message.Message.{Message};
 ghost use Rattle.link_transfer.specs.Event.{event_of};
 ghost use Rattle.link_transfer.specs.Order.{judged_message, refusal, effect_of, with_taken};
 ghost use Rattle.link_ffi_numbers.specs.Order.{HasNumbers, IsOrderAt, is_in_range, ReturnsTurn, ReturnsTakenTurn};
+ghost use Rattle.link_ffi_numbers.specs.Status.{status_ok, status_range};
 
 use link_ffi_numbers::order::{Order, Turn, event_by, is_in_range, judge, new_order, take};
 use link_ffi_numbers::recording;
@@ -14,7 +15,7 @@ use link_ffi_numbers::status::{OK, RANGE};
 #[unsafe(no_mangle)]
 pub extern "C" fn tcpclkit_raw_start_order(order: &mut Order) -> u32
     ensures order { IsOrderAt order.new [] }
-    ensures status { result ≡ 0 }
+    ensures status { result ≡ status_ok }
 {
     *order = new_order();
     OK
@@ -35,11 +36,11 @@ pub extern "C" fn tcpclkit_raw_judge_message(
         → IsOrderAt order.old before
         → ReturnsTurn (judged_message before (event_of read)) answer.new result }
     ensures accepted { (before : List Message) (read : Message) → HasNumbers read message.now
-        → IsOrderAt order.old before → result ≡ 0
+        → IsOrderAt order.old before → result ≡ status_ok
         → IsOrderAt order.new (before ++ read ∷ []) }
     ensures refused { 0 < result → order.new ≡ order.old }
     ensures range { is_in_range order.old message.now ≡ false
-        → (result ≡ 6) × (answer.new ≡ answer.old) }
+        → (result ≡ status_range) × (answer.new ≡ answer.old) }
 {
     if !is_in_range(order, message) {
         return RANGE;
@@ -65,7 +66,7 @@ pub extern "C" fn tcpclkit_raw_take_message(
     ensures after { (before : List Message) (read : Message) → HasNumbers read message.now
         → IsOrderAt order.old before → IsOrderAt order.new (with_taken before read) }
     ensures range { is_in_range order.old message.now ≡ false
-        → (result ≡ 6) × (answer.new ≡ answer.old) × (order.new ≡ order.old) }
+        → (result ≡ status_range) × (answer.new ≡ answer.old) × (order.new ≡ order.old) }
 {
     if !is_in_range(order, message) {
         return RANGE;

@@ -3,6 +3,7 @@
 ghost use Rattle.std.specs.Prelude.{◌≡◌, ◌-◌, ◌<◌, true, false, length, drop};
 ghost use Rattle.link_wire.specs.Message.{contact_at, message_at};
 ghost use Rattle.link_ffi_numbers.specs.Recording.{ReturnsContact, ReturnsMessage, list_of, items_end, has_list_at, item_part, ReturnsItem};
+ghost use Rattle.link_ffi_numbers.specs.Status.{status_end, status_range};
 
 use link_ffi_numbers::fault::{Fault, wire_status};
 use link_ffi_numbers::recording::{
@@ -39,8 +40,9 @@ pub extern "C" fn tcpclkit_raw_read_contact(bytes: &[u8], answer: &mut Contact) 
 /// Writes nothing and returns `END` at the end of the bytes, or `RANGE` if the offset is past it.
 #[unsafe(no_mangle)]
 pub extern "C" fn tcpclkit_raw_read_message(bytes: &[u8], offset: u64, answer: &mut Message) -> u32
-    ensures range { length bytes.now < offset → (result ≡ 6) × (answer.new ≡ answer.old) }
-    ensures ended { offset ≡ length bytes.now → (result ≡ 1) × (answer.new ≡ answer.old) }
+    ensures range { length bytes.now < offset
+        → (result ≡ status_range) × (answer.new ≡ answer.old) }
+    ensures ended { offset ≡ length bytes.now → (result ≡ status_end) × (answer.new ≡ answer.old) }
     ensures message { offset < length bytes.now
         → ReturnsMessage bytes.now offset (message_at (drop offset bytes.now)) answer.new result }
 {
@@ -80,9 +82,9 @@ pub extern "C" fn tcpclkit_raw_read_item(
     answer: &mut Item,
 ) -> u32
     ensures range { has_list_at (length bytes.now) message.now offset ≡ false
-        → (result ≡ 6) × (answer.new ≡ answer.old) }
+        → (result ≡ status_range) × (answer.new ≡ answer.old) }
     ensures ended { has_list_at (length bytes.now) message.now offset ≡ true
-        → offset ≡ items_end message.now → (result ≡ 1) × (answer.new ≡ answer.old) }
+        → offset ≡ items_end message.now → (result ≡ status_end) × (answer.new ≡ answer.old) }
     ensures item { has_list_at (length bytes.now) message.now offset ≡ true
         → offset < items_end message.now
         → ReturnsItem (list_of message.now) bytes.now offset (items_end message.now - offset)

@@ -10,6 +10,7 @@ ghost use Rattle.link_bundle_blocks.specs.Bundle.{verdict, payload_seen, state_o
 ghost use Rattle.link_bundle.specs.Scan.{HasScanned, scan_size};
 ghost use Rattle.link_bundle_blocks.specs.PrimaryFields.{primary_fields};
 ghost use Rattle.link_ffi_numbers.specs.Bundle.{verdict_shown, state_status, ReturnsVerdict};
+ghost use Rattle.link_ffi_numbers.specs.Status.{status_ok};
 ghost use Rattle.tcpclkit_c.specs.Bundle.{three_names, ReturnsBundleOrFault};
 ghost use Rattle.tcpclkit_c.specs.Scan.{IsMarkedScanAt, ScanLoan, ReadsScan, HoldsScan, mark, has_room, is_late, fed, fed_status, may_end, EndsScan, ReturnsCutBlock, FeedsScanIfAny, JudgesIfAnyScan, EndsScanIfAny, ReturnsCutBlockIfAnyScan, DescribesIfAnyScan};
 ghost use Rattle.tcpclkit_c.specs.NextBlock.{TakesToBlockEnd, fed_block, fed_block_status, added_block, FeedsToBlockEndIfAnyScan};
@@ -67,7 +68,7 @@ fn new_scan() -> MarkedScan
 pub unsafe extern "C" fn tcpclkit_raw_start_scan(memory: *mut u64) -> u32
     requires* { sem 𝓛 (room_at the_row memory) }
     ensures* scan { sem 𝓛 (HoldsScan memory []) }
-    ensures status { result ≡ 0 }
+    ensures status { result ≡ status_ok }
 {
     std::ptr::write(memory as *mut MarkedScan, new_scan());
     OK

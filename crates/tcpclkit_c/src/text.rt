@@ -8,6 +8,7 @@ ghost use Rattle.link_report_blocks.specs.Fields.{type_name};
 ghost use Rattle.link_report_blocks.specs.Words.{report_names, words_text};
 ghost use Rattle.link_ffi_numbers.specs.Bundle.{eid_by};
 ghost use Rattle.link_ffi_numbers.specs.Named.{named_by};
+ghost use Rattle.link_ffi_numbers.specs.Status.{status_range};
 ghost use Rattle.tcpclkit_c.specs.EidText.{ReturnsEidOfText};
 ghost use Rattle.tcpclkit_c.specs.Text.{answer_text, named_text, option_text, option_eid_text, reason_text_by, is_data_of, data_words, ReturnsThisText, ReturnsText};
 
@@ -79,7 +80,7 @@ pub extern "C" fn tcpclkit_raw_write_fault_text(
 ) -> u32
     ensures text { ReturnsText (option_text (named_by code number)) text.old text.new written.new
         result }
-    ensures range { result ≡ 6 → (text.new ≡ text.old) × (written.new ≡ written.old) }
+    ensures range { result ≡ status_range → (text.new ≡ text.old) × (written.new ≡ written.old) }
 {
     match named_by(code, number) {
         None => RANGE,
@@ -102,7 +103,7 @@ pub extern "C" fn tcpclkit_raw_write_eid_text(
 ) -> u32
     ensures text { ReturnsText (option_eid_text (eid_by eid.now name.now)) text.old text.new
         written.new result }
-    ensures range { result ≡ 6 → (text.new ≡ text.old) × (written.new ≡ written.old) }
+    ensures range { result ≡ status_range → (text.new ≡ text.old) × (written.new ≡ written.old) }
 {
     match eid_by(eid, name) {
         None => RANGE,
@@ -159,7 +160,7 @@ pub extern "C" fn tcpclkit_raw_write_reason_text(
     written: &mut u64,
 ) -> u32
     ensures text { ReturnsText (reason_text_by kind reason) text.old text.new written.new result }
-    ensures range { result ≡ 6 → (text.new ≡ text.old) × (written.new ≡ written.old) }
+    ensures range { result ≡ status_range → (text.new ≡ text.old) × (written.new ≡ written.old) }
 {
     let Some(of) = reason_of_by(kind) else {
         return RANGE;
@@ -247,7 +248,7 @@ pub extern "C" fn tcpclkit_raw_read_block_data(
     ensures text { is_data_of primary.now block.now (length content.now) ≡ true
         → ReturnsThisText (data_words primary.now block.now content.now) text.old text.new written.new result }
     ensures range { is_data_of primary.now block.now (length content.now) ≡ false
-        → (result ≡ 6) × (text.new ≡ text.old) × (written.new ≡ written.old) }
+        → (result ≡ status_range) × (text.new ≡ text.old) × (written.new ≡ written.old) }
 {
     if !is_data_of(primary, block, content) {
         return RANGE;

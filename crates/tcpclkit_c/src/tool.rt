@@ -9,6 +9,7 @@ ghost use Rattle.link_tool_list.specs.Listing.{list_tool};
 ghost use Rattle.link_tool_pack.specs.More.{more_tool};
 ghost use Rattle.link_tool_pack.specs.Packer.{IsNewCutterFor};
 ghost use Rattle.link_tool_pack.specs.Packing.{pack_tool};
+ghost use Rattle.link_ffi_numbers.specs.Status.{status_range};
 ghost use Rattle.link_ffi_tools.specs.Options.{unpack_in_range, blocks_in_range, check_in_range, pack_in_range, pack_numbers_fit, more_in_range};
 ghost use Rattle.link_ffi_tools.specs.Tool.{ReturnsTexts, ReturnsUnpackTexts, ReturnsBlocksTexts, ReturnsCheckTexts};
 ghost use Rattle.tcpclkit_c.specs.Packed.{tool_with, packed_by, IsPackMoreOptionsByNumbers, ReturnsPackTexts, ReturnsPackMoreTexts};
@@ -64,13 +65,15 @@ pub extern "C" fn tcpclkit_raw_unpack(
     report: &mut [u8],
     answer: &mut Run,
 ) -> u32
-    ensures range { unpack_in_range options.now ≡ false → (result ≡ 6) × (answer.new ≡ answer.old) }
+    ensures range { unpack_in_range options.now ≡ false
+        → (result ≡ status_range) × (answer.new ≡ answer.old) }
     ensures run { unpack_in_range options.now ≡ true → ReturnsUnpackTexts options.now bytes.now
         (record { output = wants_output; report = wants_report })
         (record { output = output.old; report = report.old })
         (record { output = output.new; report = report.new })
         answer.new result }
-    ensures unwritten { result ≡ 6 → (output.new ≡ output.old) × (report.new ≡ report.old) }
+    ensures unwritten { result ≡ status_range
+        → (output.new ≡ output.old) × (report.new ≡ report.old) }
 {
     let wants = Wants {
         output: wants_output,
@@ -93,13 +96,15 @@ pub extern "C" fn tcpclkit_raw_blocks(
     report: &mut [u8],
     answer: &mut Run,
 ) -> u32
-    ensures range { blocks_in_range options.now ≡ false → (result ≡ 6) × (answer.new ≡ answer.old) }
+    ensures range { blocks_in_range options.now ≡ false
+        → (result ≡ status_range) × (answer.new ≡ answer.old) }
     ensures run { blocks_in_range options.now ≡ true → ReturnsBlocksTexts options.now bytes.now
         (record { output = wants_output; report = wants_report })
         (record { output = output.old; report = report.old })
         (record { output = output.new; report = report.new })
         answer.new result }
-    ensures unwritten { result ≡ 6 → (output.new ≡ output.old) × (report.new ≡ report.old) }
+    ensures unwritten { result ≡ status_range
+        → (output.new ≡ output.old) × (report.new ≡ report.old) }
 {
     let wants = Wants {
         output: wants_output,
@@ -122,13 +127,15 @@ pub extern "C" fn tcpclkit_raw_check(
     report: &mut [u8],
     answer: &mut Run,
 ) -> u32
-    ensures range { check_in_range options.now ≡ false → (result ≡ 6) × (answer.new ≡ answer.old) }
+    ensures range { check_in_range options.now ≡ false
+        → (result ≡ status_range) × (answer.new ≡ answer.old) }
     ensures run { check_in_range options.now ≡ true → ReturnsCheckTexts options.now bytes.now
         (record { output = wants_output; report = wants_report })
         (record { output = output.old; report = report.old })
         (record { output = output.new; report = report.new })
         answer.new result }
-    ensures unwritten { result ≡ 6 → (output.new ≡ output.old) × (report.new ≡ report.old) }
+    ensures unwritten { result ≡ status_range
+        → (output.new ≡ output.old) × (report.new ≡ report.old) }
 {
     let wants = Wants {
         output: wants_output,
@@ -178,14 +185,15 @@ pub extern "C" fn tcpclkit_raw_pack(
     answer: &mut Run,
 ) -> u32
     ensures range { pack_in_range options.now (length node.now) ≡ false
-        → (result ≡ 6) × (answer.new ≡ answer.old) }
+        → (result ≡ status_range) × (answer.new ≡ answer.old) }
     ensures run { pack_in_range options.now (length node.now) ≡ true
         → ReturnsPackTexts options.now node.now bytes.now
         (record { output = wants_output; report = wants_report })
         (record { output = output.old; report = report.old })
         (record { output = output.new; report = report.new })
         answer.new result }
-    ensures unwritten { result ≡ 6 → (output.new ≡ output.old) × (report.new ≡ report.old) }
+    ensures unwritten { result ≡ status_range
+        → (output.new ≡ output.old) × (report.new ≡ report.old) }
 {
     if !pack_in_range(options, node.len()) {
         return RANGE;
@@ -273,14 +281,15 @@ pub extern "C" fn tcpclkit_raw_pack_more(
     answer: &mut Run,
 ) -> u32
     ensures range { more_in_range options.now (length bytes.now) ≡ false
-        → (result ≡ 6) × (answer.new ≡ answer.old) }
+        → (result ≡ status_range) × (answer.new ≡ answer.old) }
     ensures run { more_in_range options.now (length bytes.now) ≡ true
         → ReturnsPackMoreTexts options.now bytes.now
         (record { output = wants_output; report = wants_report })
         (record { output = output.old; report = report.old })
         (record { output = output.new; report = report.new })
         answer.new result }
-    ensures unwritten { result ≡ 6 → (output.new ≡ output.old) × (report.new ≡ report.old) }
+    ensures unwritten { result ≡ status_range
+        → (output.new ≡ output.old) × (report.new ≡ report.old) }
 {
     if !more_in_range(options, bytes.len()) {
         return RANGE;

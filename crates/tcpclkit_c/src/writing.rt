@@ -8,6 +8,7 @@ ghost use Rattle.link_bundle_writer.specs.NewData.{age_bytes, hop_count_bytes};
 ghost use Rattle.link_cbor.specs.Crc.{crc};
 ghost use Rattle.link_cbor.specs.declared.check.CheckKind.{CheckKind};
 ghost use Rattle.link_ffi_numbers.specs.Bundle.{eid_by};
+ghost use Rattle.link_ffi_numbers.specs.Status.{status_ok, status_range};
 ghost use Rattle.link_ffi_writer.specs.Bundles.{primary_bytes_by, block_bytes_by};
 ghost use Rattle.link_ffi_writer.specs.Checks.{kind_by, kind_of, IsKeptCheckAt};
 ghost use Rattle.link_ffi_writer.specs.Messages.{HasFields, IsNoMessage, item_by};
@@ -145,9 +146,9 @@ pub extern "C" fn tcpclkit_raw_write_block_head(
 #[unsafe(no_mangle)]
 pub extern "C" fn tcpclkit_raw_start_check(check: &mut KeptCheck, kind: u64) -> u32
     ensures started { (known : CheckKind) → kind_by kind ≡ Some known
-        → (result ≡ 0) × IsKeptCheckAt known check.new [] }
+        → (result ≡ status_ok) × IsKeptCheckAt known check.new [] }
     ensures range { kind_by kind ≡ None
-        → (result ≡ 6) × (check.new ≡ record { kind = 0; state = 0 }) }
+        → (result ≡ status_range) × (check.new ≡ record { kind = 0; state = 0 }) }
 {
     match KeptCheck::new(kind) {
         Some(started) => {
@@ -167,8 +168,8 @@ pub extern "C" fn tcpclkit_raw_start_check(check: &mut KeptCheck, kind: u64) -> 
 #[unsafe(no_mangle)]
 pub extern "C" fn tcpclkit_raw_feed_check(check: &mut KeptCheck, piece: &[u8]) -> u32
     ensures fed { (kind : CheckKind) (before : List ℕ) → IsKeptCheckAt kind check.old before
-        → (result ≡ 0) × IsKeptCheckAt kind check.new (before ++ piece.now) }
-    ensures range { kind_of check.old ≡ None → (result ≡ 6) × (check.new ≡ check.old) }
+        → (result ≡ status_ok) × IsKeptCheckAt kind check.new (before ++ piece.now) }
+    ensures range { kind_of check.old ≡ None → (result ≡ status_range) × (check.new ≡ check.old) }
 {
     if check.feed(piece) { OK } else { RANGE }
 }
@@ -178,8 +179,8 @@ pub extern "C" fn tcpclkit_raw_feed_check(check: &mut KeptCheck, piece: &[u8]) -
 #[unsafe(no_mangle)]
 pub extern "C" fn tcpclkit_raw_end_check(check: &KeptCheck, value: &mut u64) -> u32
     ensures value { (kind : CheckKind) (bytes : List ℕ) → IsKeptCheckAt kind check.now bytes
-        → (result ≡ 0) × (value.new ≡ crc kind bytes) }
-    ensures range { kind_of check.now ≡ None → (result ≡ 6) × (value.new ≡ 0) }
+        → (result ≡ status_ok) × (value.new ≡ crc kind bytes) }
+    ensures range { kind_of check.now ≡ None → (result ≡ status_range) × (value.new ≡ 0) }
 {
     match check.value() {
         Some(found) => {
