@@ -15,7 +15,7 @@ import unittest
 import tcpclkit
 from tcpclkit import Announced, Block, BlockHead, Code, Dtn, Fault, Ipn, Item, Kind, Message
 
-EXAMPLES = f"{os.path.dirname(os.path.realpath(__file__))}/../../../examples"
+EXAMPLES = f"{os.path.dirname(os.path.realpath(__file__))}/../../examples"
 NUMBER = 2**64 - 1
 COPIES = (copy.copy, copy.deepcopy)
 

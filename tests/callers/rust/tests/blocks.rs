@@ -200,7 +200,7 @@ fn data_of_another_length_is_refused() {
 }
 
 fn example(name: &str) -> Vec<u8> {
-    let path = format!("{}/../../../../examples/{name}", env!("CARGO_MANIFEST_DIR"));
+    let path = format!("{}/../../../examples/{name}", env!("CARGO_MANIFEST_DIR"));
     std::fs::read(path).unwrap()
 }
 

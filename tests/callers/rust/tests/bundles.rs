@@ -8,7 +8,7 @@ fn hello() -> Vec<u8> {
 }
 
 fn example(name: &str) -> Vec<u8> {
-    let path = format!("{}/../../../../examples/{name}", env!("CARGO_MANIFEST_DIR"));
+    let path = format!("{}/../../../examples/{name}", env!("CARGO_MANIFEST_DIR"));
     std::fs::read(path).unwrap()
 }
 

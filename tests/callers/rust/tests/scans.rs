@@ -5,7 +5,7 @@ use tcpclkit::{bundle, primary, verdict, Code, EndpointId, Scan};
 /// Two bundles, of 34 and of 37 bytes.
 fn bundles() -> Vec<u8> {
     let path = format!(
-        "{}/../../../../examples/two.bundles",
+        "{}/../../../examples/two.bundles",
         env!("CARGO_MANIFEST_DIR")
     );
     std::fs::read(path).unwrap()

@@ -9,7 +9,7 @@ use tcpclkit::{
 };
 
 fn example(name: &str) -> Vec<u8> {
-    let path = format!("{}/../../../../examples/{name}", env!("CARGO_MANIFEST_DIR"));
+    let path = format!("{}/../../../examples/{name}", env!("CARGO_MANIFEST_DIR"));
     std::fs::read(path).unwrap()
 }
 
