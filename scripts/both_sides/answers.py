@@ -3,6 +3,7 @@
 from collections import deque
 from itertools import islice, takewhile
 
+from .captured import is_before
 from .facts import ACK, END, REFUSE, START
 from .pairing import counted, paired, pairing
 from .sending import claim_left, drop, is_critical, note_refused
@@ -319,6 +320,8 @@ def judge_refuse(side, transfer, message, came):
     if transfer.refused is not None:
         return
     see(side, transfer.offset)
+    if is_before(side, message, transfer.offset) and message.ident not in side.other.over:
+        side.claim(message.offset, MUST, "refuse-unknown", f"id={message.ident}", about=transfer)
     refuse_reason(side, transfer, message)
     refuse_order(side, transfer, message)
     if transfer.again is None:

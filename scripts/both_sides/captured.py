@@ -35,6 +35,20 @@ def judge(side):
         side.claim(side.listing.end, SHOULD, "reset")
 
 
+def had_come(side, message):
+    """Returns how many bytes of the other side had come when a side sent the last byte of a message, or
+    None if no capture shows it."""
+    shown = side.captured and side.captured.shown
+    return None if shown is None else shown.arrived.at(message.end - 1)
+
+
+def is_before(side, message, offset):
+    """Returns whether a capture shows that a side sent a message before the byte of the other side at
+    an offset had come."""
+    seen = had_come(side, message)
+    return seen is not None and seen <= offset
+
+
 def is_left(side, transfer, segment):
     """Returns whether a side closed the connection after a SESS_TERM, and had not answered a segment
     that had come. A transfer that began late had to be refused."""

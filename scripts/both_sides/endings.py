@@ -177,11 +177,19 @@ def terms(side):
     reply = next((term for term in side.terms.values() if term.flags & REPLY), None)
     if reply is not None and reply is first and not asked:
         side.claim(reply.offset, SHOULD if others else MUST, "reply-alone", if_known=not others)
-    if reply is not None and asked and not any(repeats(reply, term) for term in asked):
-        reply_differs(side, reply, asked[0])
+    if reply is not None and asked:
+        judge_reply(side, reply, asked)
     if asked and first is None and side.is_whole():
         level = side.level_of_missing() if side.has_seen(asked[0]) else SHOULD
         side.claim(side.listing.end, level, "term-unanswered", f"peer-at={asked[0].offset}")
+
+
+def judge_reply(side, reply, asked):
+    """Judges a SESS_TERM with REPLY, by those that it may answer. A capture may show that it came before."""
+    if reply is side.first_term() and captured.is_before(side, reply, asked[0].end - 1):
+        side.claim(reply.offset, MUST, "reply-alone")
+    elif not any(repeats(reply, term) for term in asked):
+        reply_differs(side, reply, asked[0])
 
 
 def repeats(reply, term):

@@ -2,6 +2,7 @@
 
 from itertools import islice
 
+from .captured import had_come, is_before
 from .facts import TERM, Listing, Times
 from .sides import KEPT, MUST, SHOULD, SLACK, Came
 
@@ -90,10 +91,8 @@ def early(side, transfer, message, segment, came):
     """Judges that an XFER_ACK comes after all of its segment has come: by what a capture shows, or
     by times. By times it is no must: the capture may lack the packet by which the segment came."""
     if side.captured is not None:
-        seen = side.captured.shown.arrived.at(message.end - 1)
-        if seen is not None and seen < segment.end:
-            words = f"id={transfer.ident} seen={seen} peer-at={segment.offset}"
-            side.claim(message.offset, MUST, "ack-early", words, about=transfer)
+        if is_before(side, message, segment.end - 1):
+            early_by_capture(side, transfer, message, segment)
     elif came and segment.came and came.first + EXCHANGED < segment.came:
         before = spelled(segment.came - came.first)
         words = f"id={transfer.ident} peer-at={segment.offset} early={before}"
@@ -105,11 +104,16 @@ def early_sum(side, transfer, message):
     arrive. It counts a segment if its length is above the sum before that one."""
     if side.captured is None or transfer.again is not None or message.length > transfer.total:
         return
-    counted = (it for it in islice(reversed(transfer.pending), KEPT) if it.total - it.length < message.length)
-    segment, seen = next(counted, None), side.captured.shown.arrived.at(message.end - 1)
-    if segment is not None and seen is not None and seen <= segment.offset:
-        words = f"id={transfer.ident} seen={seen} peer-at={segment.offset}"
-        side.claim(message.offset, MUST, "ack-early", words, about=transfer)
+    last = islice(reversed(transfer.pending), KEPT)
+    segment = next((it for it in last if it.total - it.length < message.length), None)
+    if segment is not None and is_before(side, message, segment.offset):
+        early_by_capture(side, transfer, message, segment)
+
+
+def early_by_capture(side, transfer, message, segment):
+    """Keeps the line of an XFER_ACK that a capture shows to be early."""
+    words = f"id={transfer.ident} seen={had_come(side, message)} peer-at={segment.offset}"
+    side.claim(message.offset, MUST, "ack-early", words, about=transfer)
 
 
 def idle(side, tcpclkit):

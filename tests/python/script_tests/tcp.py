@@ -18,7 +18,7 @@ from .common import SEED, TOP, empty_room, run, write
 sys.path[:0] = [f"{TOP}/tests/python", f"{TOP}/scripts"]
 
 from tcpclkit_scripts.shown import Arrived
-from rows.sessions import A, ACKED, ALIVE, B, HEADER, REPLIED, SIZE, START, TERM, acked, first, last, whole
+from rows.sessions import A, ACKED, ALIVE, B, HEADER, REPLIED, SIZE, START, TERM, acked, first, last, refused, whole
 
 LINK = Link((49152, NUMBERS - 70), (4556, NUMBERS - 60))
 WIDE, OTHER = 65535, {"a": "b", "b": "a"}
@@ -179,10 +179,31 @@ EARLY = {
 }
 
 
+# How a refusal and its transfer, or a reply and its SESS_TERM were captured, and the lines. The SESS_TERM
+# begin at 38 too.
+ASKED = FIRST + len(TERM)
+BEFORE = {
+    "a refusal, and no byte of the transfer had arrived": (
+        [Turn(1, "b", refused(), seen=FIRST), Turn(1.1, "a", whole()), *ended(2)], [f"b {FIRST} must refuse-unknown id=0"]
+    ),
+    "a refusal, and a byte of the transfer had arrived": (
+        [Turn(1, "b", refused(), seen=FIRST + 1), Turn(1.1, "a", whole()), *ended(2)], []
+    ),
+    "a reply, and a byte of the SESS_TERM had not arrived": (
+        [Turn(1, "b", REPLIED, seen=ASKED - 1), Turn(1.1, "a", TERM), *ended(2)[2:]], [f"b {FIRST} must reply-alone"]
+    ),
+    "a reply, and the SESS_TERM had arrived": (
+        [Turn(1, "b", REPLIED, seen=ASKED), Turn(1.1, "a", TERM), *ended(2)[2:]], []
+    ),
+}
+
+
 def early_answers():
     """An XFER_ACK is early if its packet does not acknowledge the whole segment, whatever the times."""
     for name, (turns, lines) in EARLY.items():
         yield f"capture --check: ack-early: {name}", lines, rules([*OPENED, *turns, *ended(2)])
+    for name, (turns, lines) in BEFORE.items():
+        yield f"capture --check: {name}", lines, rules([*OPENED, *turns])
 
 
 # ---- keepalive-late
