@@ -6,6 +6,9 @@
     judge     what its output says of each edit
     kept      verdicts of earlier runs
     trying    which edits are tried together, and which alone
+    contract  the clauses of functions, and the definitions that they name
+    promise   promises, and the clauses that they cite
+    standing  what a refusal says of the promises of an edit
 """
 
 import os

@@ -7,8 +7,8 @@ edit that was applied alone: then everything that is refused is refused because 
 import re
 from typing import NamedTuple
 
-# The prover refuses the wrong body. Weakly: only since a proof names what the edit took away.
-REFUSED, WEAK = "refused", "weakly refused"
+# The prover refuses the wrong body.
+REFUSED = "refused"
 # These fail. An edit that is unjudged among others is tried alone.
 ACCEPTED, UNREADABLE, AT_LIMIT = "let through", "not compiled", "at a limit"
 UNJUDGED, UNFIT = "not judged", "cannot be applied"
@@ -31,18 +31,35 @@ LIMIT = re.compile(
     r"antt ran out of (?:stack|the (?:steps|memory) that the check of one declaration may)"
     r"|(?:outgrew the memory limit|stopped at the step limit) \(|rattle: no verdict"
 )
+# The goal that a line names: of a note, of an error in a proof, and of what an error leaves out
+NOTED = re.compile(r"it is not proved that .*?\(`([\w.-]+)`\)", re.DOTALL)
+ANSWERED = re.compile(r"error: `([\w.-]+)`:")
+LEFT_OUT = re.compile(r"which was (?:rejected|not admitted), (?:was|were) not checked: ([\w., -]+)")
+# Why a goal is refused: the prover found values at which it is false, or it found no proof, or the
+# answer by hand is refused, or that answer names what is not there.
+FALSE, OPEN = "false at values that were found", "not proved"
+ANSWER, NAMES = "its answer by hand is refused", "its answer by hand names what is gone"
+AT_VALUES = "allow values at which this goal is false"
 STALE = re.compile(r"module .Rattle-\w+-.*Run the lower steps again")
 SHOWN = 160
 
 
+class Goal(NamedTuple):
+    """A goal that was refused: its function and its name, which may both be empty, and why."""
+    function: str
+    name: str
+    why: str
+
+
 class Verdict(NamedTuple):
-    """What came of an edit, and the line that shows it."""
+    """What came of an edit, the line that shows it, and the goals of a refusal."""
     kind: str
     text: str
+    goals: tuple
 
-    def is_good(self):
+    def is_refusal(self):
         """Returns whether the edit was refused, as it must be."""
-        return self.kind in (REFUSED, WEAK)
+        return self.kind == REFUSED
 
 
 class Line(NamedTuple):
@@ -68,6 +85,17 @@ class Line(NamedTuple):
     def is_refusal(self):
         """Returns whether it says that something is not proved, or that a proof is wrong."""
         return bool(ERROR.match(self.text) or NOT_PROVED.search(self.text))
+
+    def goals(self, function):
+        """Returns the goals of a function that the line refuses. One may have no name."""
+        if ERROR.match(self.text):
+            why = NAMES if NAMES_ONLY.search(self.text) else ANSWER
+            left_out = LEFT_OUT.search(self.text)
+            names = re.split(", ", left_out[1]) if left_out else ANSWERED.findall(self.text)[:1]
+        else:
+            why = FALSE if AT_VALUES in self.text else OPEN
+            names = NOTED.findall(self.text)
+        return [Goal(function, name, why) for name in names or [""]]
 
 
 class Said(NamedTuple):
@@ -124,6 +152,11 @@ class Output:
         proofs = [line for line in self.placed if line.file.startswith(folder)]
         return [line for line in self.functions[name].notes + proofs if line.is_refusal()]
 
+    def goals_of(self, names):
+        """Returns the goals of these functions that were refused."""
+        found = [goal for name in names for it in self.own_lines(name) for goal in it.goals(name)]
+        return tuple(dict.fromkeys(found))
+
     def compiler_errors(self):
         """Returns the errors of the front end that have a place."""
         return [line for line in self.placed if line.is_compiler_error()]
@@ -134,35 +167,40 @@ def first(lines):
     return lines[0].whole.split("\n")[0][:SHOWN] if lines else ""
 
 
-def by_lines(lines):
-    """Returns the verdict that these refusals come to, or None if there are none."""
+def by_lines(lines, goals):
+    """Returns the verdict that these refusals of goals come to, or None if there are none."""
     limits = [line for line in lines if LIMIT.search(line.text)]
     names = [line for line in lines if NAMES_ONLY.search(line.text)]
     strong = [line for line in lines if line not in limits and line not in names]
-    for kind, found in [(REFUSED, strong), (AT_LIMIT, limits), (WEAK, names)]:
+    for kind, found in [(REFUSED, strong), (AT_LIMIT, limits), (REFUSED, names)]:
         if found:
-            return Verdict(kind, first(found))
+            return Verdict(kind, first(found), goals)
     return None
+
+
+def failed(kind, line):
+    """Returns a verdict that is no refusal, with the beginning of the line that shows it."""
+    return Verdict(kind, line[:SHOWN], ())
 
 
 def of_function(output, function):
     """Judges an edit of one function, by what is said of that function."""
     name = output.named(function)
     if not name:
-        return Verdict(UNJUDGED, f"no line of the output is on {function}")
+        return failed(UNJUDGED, f"no line of the output is on {function}")
     state, rest, _ = output.functions[name]
-    line = f"fn {name}: {state}{rest}"[:SHOWN]
+    line = f"fn {name}: {state}{rest}"
     lines = output.own_lines(name)
     unread = [it for it in lines if it.is_unread()]
     if unread:
-        return Verdict(UNREADABLE, first(unread))
+        return failed(UNREADABLE, first(unread))
     if state == "proved":
-        return Verdict(ACCEPTED, line)
+        return failed(ACCEPTED, line)
     if state == "could not tell":
-        return Verdict(AT_LIMIT, line)
+        return failed(AT_LIMIT, line)
     if state == "no proof" and "expected answers" not in rest and not lines:
-        return Verdict(UNJUDGED, line)
-    return by_lines(lines) or Verdict(UNJUDGED, line)
+        return failed(UNJUDGED, line)
+    return by_lines(lines, output.goals_of([name])) or failed(UNJUDGED, line)
 
 
 def of_whole(output):
@@ -171,13 +209,16 @@ def of_whole(output):
     errors = output.compiler_errors()
     unread = [line for line in output.placed if line.is_unread()]
     if output.status == 0:
-        return Verdict(ACCEPTED, last[:SHOWN])
+        return failed(ACCEPTED, last)
     if errors or unread and output.status == 1:
-        return Verdict(UNREADABLE, first(errors or unread))
+        return failed(UNREADABLE, first(errors or unread))
     if output.status == 1 and last.startswith("logic=not-proved"):
         refusals = [line for line in output.placed if line.is_refusal()]
-        return by_lines(refusals) or Verdict(UNJUDGED, last[:SHOWN])
+        # Such as those of a lemma, which are of no function
+        others = tuple(goal for line in refusals for goal in line.goals(""))
+        goals = output.goals_of(output.functions) or others
+        return by_lines(refusals, goals) or failed(UNJUDGED, last)
     limit = next((line for line in output.lines if LIMIT.search(line)), "")
     if limit:
-        return Verdict(AT_LIMIT, limit[:SHOWN])
-    return Verdict(UNJUDGED, f"the check ended with status {output.status}: {last[:SHOWN]}")
+        return failed(AT_LIMIT, limit)
+    return failed(UNJUDGED, f"the check ended with status {output.status}: {last}")

@@ -10,7 +10,8 @@ import tempfile
 
 from sums import Sums, content, sum_of
 
-from .judge import REFUSED, WEAK, Verdict
+from . import edit as edits
+from .judge import Goal, Verdict
 
 FOLDER = "rattle-kept-edits"
 # A verdict also depends on how output is judged.
@@ -44,13 +45,15 @@ class Kept:
         try:
             with open(self._path(edit), encoding="utf-8") as file:
                 verdict = Verdict(**json.load(file))
+            verdict = verdict._replace(goals=tuple(Goal(*it) for it in verdict.goals))
         except (OSError, ValueError, TypeError):
+            # Or an entry of an older form, without the goals
             return None
-        return verdict if verdict.is_good() else None
+        return verdict if verdict.is_refusal() else None
 
     def put(self, edit, verdict):
         """Keeps the verdict on an edit that was refused."""
-        if not self.folder or verdict.kind not in (REFUSED, WEAK):
+        if not self.folder or not verdict.is_refusal():
             return
         try:
             with tempfile.NamedTemporaryFile(

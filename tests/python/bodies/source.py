@@ -1,4 +1,4 @@
-"""The functions of a source file: the name that the prover prints for each, and its body."""
+"""The functions of a source file: their names as the prover prints them, clauses and bodies."""
 
 import re
 from typing import NamedTuple
@@ -9,6 +9,7 @@ NO_CODE = re.compile(
 )
 ITEM = re.compile(r"[{}]|\bfn\s+(\w+)|\b(impl)\b|\b(trait|mod)\s+(\w+)\s*(?=[^\s;])")
 CLAUSE = re.compile(r"\b(?:requires|ensures|ghost|decreases)\b")
+ENSURES = re.compile(r"\bensures\b\*?\s*(\w*)\s*(?=\{)")
 OPEN, CLOSE = "([{", ")]}"
 # What stands for a body in the text of a file without its bodies
 GAP = "{..}"
@@ -92,7 +93,7 @@ def impl_name(head):
 
 
 def functions_in(text):
-    """Returns the functions of a file that have a body, in their order."""
+    """Returns the functions of a file, in their order. The body of one without a body is empty."""
     code, found, scopes, at = blanked(text), [], [], 0
     while True:
         item = ITEM.search(code, at)
@@ -100,10 +101,8 @@ def functions_in(text):
             return found
         at = item.end()
         if item[1]:
-            body, end = body_of(code, at)
-            if body < end:
-                found.append(Function("::".join([*scopes, item[1]]), item.start(), body, end))
-            at = end
+            body, at = body_of(code, at)
+            found.append(Function("::".join([*scopes, item[1]]), item.start(), body, at))
         elif item[2] or item[3]:
             brace = next_brace(code, at)
             if code[brace] == "{":
@@ -115,6 +114,17 @@ def functions_in(text):
             scopes.pop()
 
 
+def ensures_of(text, function):
+    """Returns the `ensures` clauses of a function: pairs of a name, or none, and a text."""
+    code, found, at = blanked(text), [], function.head
+    while True:
+        clause = ENSURES.search(code, at, function.body)
+        if not clause:
+            return found
+        at = after_group(code, clause.end())
+        found.append((clause[1], text[clause.end():at]))
+
+
 def module_of(path):
     """Returns the names of the module that a file of a crate is."""
     names = re.sub(r"\.rt$", "", path).split("/")[1:]
@@ -123,7 +133,7 @@ def module_of(path):
 
 def named_functions(crate, path, text):
     """Returns the functions of a file with their whole names, but for a name that two have."""
-    functions = functions_in(text)
+    functions = [function for function in functions_in(text) if function.body < function.end]
     names = [function.name for function in functions]
     return [
         function._replace(name="::".join([crate, *module_of(path), function.name]))

@@ -7,7 +7,7 @@ from typing import NamedTuple
 
 from . import edit as edits
 from . import judge, source
-from .judge import UNJUDGED, Verdict
+from .judge import UNJUDGED
 
 
 class Task(NamedTuple):
@@ -135,7 +135,7 @@ class Trial:
         """Tries all of these edits."""
         by_crate = defaultdict(list)
         for edit in found:
-            verdict = Verdict(judge.UNFIT, edit.problem) if edit.problem else self.kept.get(edit)
+            verdict = judge.failed(judge.UNFIT, edit.problem) if edit.problem else self.kept.get(edit)
             if verdict:
                 self.verdicts[edit] = verdict
                 self.known.update([] if edit.problem else [edit])
@@ -222,7 +222,7 @@ class Trial:
         if ran.status == 0:
             return batches_of(found)
         for edit in found:
-            self._settle(edit, Verdict(UNJUDGED, "the crate is not proved as it is"))
+            self._settle(edit, judge.failed(UNJUDGED, "the crate is not proved as it is"))
         return []
 
     def _judge(self, batch, output):
@@ -230,7 +230,7 @@ class Trial:
         follow = []
         for edit in batch:
             verdict = judge.of_function(output, edit.function)
-            if verdict.kind == judge.REFUSED:
+            if verdict.is_refusal():
                 self._settle(edit, verdict)
             else:
                 follow.append(as_task([edit]))
@@ -240,7 +240,7 @@ class Trial:
         """Notes the verdict on an edit."""
         self.verdicts[edit] = verdict
         self.kept.put(edit, verdict)
-        if verdict.kind != judge.REFUSED:
+        if not verdict.is_refusal():
             self.say(told(edit, verdict))
 
     def _tell(self, task, ran, follow):
@@ -255,11 +255,10 @@ def judged_alone(edit, output):
     """Judges an edit that was applied alone. If it has no verdict, its function's line says why."""
     verdict = judge.of_whole(output)
     if verdict.kind == UNJUDGED and edit.function and output.named(edit.function):
-        return Verdict(UNJUDGED, judge.of_function(output, edit.function).text)
+        return judge.failed(UNJUDGED, judge.of_function(output, edit.function).text)
     return verdict
 
 
 def told(edit, verdict):
-    """Returns the line on an edit that was not refused, or weakly."""
-    head = "weak" if verdict.is_good() else "FAILED"
-    return f"{head} {edit}: {verdict.kind}: {verdict.text}"
+    """Returns the line on an edit that was not refused."""
+    return f"FAILED {edit}: {verdict.kind}: {verdict.text}"
