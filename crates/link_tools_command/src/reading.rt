@@ -80,6 +80,7 @@ fn invocation_of(alloc: Global, name: &str, tool: &ArgMatches<'_>) -> Result<Inv
 /// The options of the tool of this name.
 fn options_of(name: &str, tool: &ArgMatches<'_>) -> Result<Options, UsageFault>
     requires { IsToolName name.now }
+    ensures memory { IfErr result (λ fault. fault ≡ UsageFault.Memory → ⊥) }
     ensures ok { IfOk result (AreOptions name.now (rows_of (found_of tool.now))) }
     ensures err { IfErr result
         (MayBeFaultOfMatches (Some (name.now, rows_of (found_of tool.now)))) }

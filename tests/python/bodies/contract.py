@@ -5,6 +5,7 @@ import os
 import re
 
 from . import source
+from .edit import read
 
 WORD = re.compile(r"[\w-]+")
 COMMENT = re.compile(r"--.*")
@@ -18,12 +19,6 @@ KEYWORD = re.compile(r"\s*(?:abbrev|unfoldable|pub record|pub data|record|data)\
 def files_in(folder, suffix):
     """Returns the paths of the files in a folder and those below, in a fixed order."""
     return sorted(glob.glob(f"{folder}/**/*{suffix}", recursive=True))
-
-
-def read(path):
-    """Returns the text of a file."""
-    with open(path, encoding="utf-8") as file:
-        return file.read()
 
 
 def definitions_in(text):

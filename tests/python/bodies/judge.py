@@ -32,7 +32,7 @@ LIMIT = re.compile(
     r"|(?:outgrew the memory limit|stopped at the step limit) \(|rattle: no verdict"
 )
 # The goal that a line names: of a note, of an error in a proof, and of what an error leaves out
-NOTED = re.compile(r"it is not proved that .*?\(`([\w.-]+)`\)", re.DOTALL)
+NOTED = re.compile(r"(?:it is not proved that .*?|found no proof )\(`([^`\s]+)`\)", re.DOTALL)
 ANSWERED = re.compile(r"error: `([\w.-]+)`:")
 LEFT_OUT = re.compile(r"which was (?:rejected|not admitted), (?:was|were) not checked: ([\w., -]+)")
 # Why a goal is refused: the prover found values at which it is false, or it found no proof, or the

@@ -10,7 +10,6 @@ import tempfile
 
 from sums import Sums, content, sum_of
 
-from . import edit as edits
 from .judge import Goal, Verdict
 
 FOLDER = "rattle-kept-edits"

@@ -7,6 +7,7 @@ from typing import NamedTuple
 FOLDER = "docs/promises"
 KEYS = ["promise", "text", "contract", "definition", "no wrong body"]
 NEEDED = {"promise", "text", "contract"}
+# What a promise has as its contract or definition if it is that of the promise before
 SAME = "the same"
 QUOTED = re.compile(r"`([^`]*)`")
 IN_PARENTHESES = re.compile(r"\(([^)]*)\)")

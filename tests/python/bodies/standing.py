@@ -16,7 +16,8 @@ import re
 from typing import NamedTuple
 
 from . import judge
-from .contract import WORD, Contracts, read
+from .contract import WORD, Contracts
+from .edit import read
 from .promise import cited_by
 
 KINDS = BY_CLAUSE, ELSEWHERE, WEAK = "clause", "elsewhere", "weak"
