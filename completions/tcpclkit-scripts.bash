@@ -10,6 +10,11 @@ _tcpclkit_script() {
     tcpclkit-pair) sides='--closed' paths='--tcpclkit' ;;
     tcpclkit-resync) numbers='--longest' paths='-o --output' flags+=' --start' ;;
     tcpclkit-check-session) sides='--closed' paths='--times --tcpclkit' flags+=' --must --own' ;;
+    tcpclkit-probe)
+      numbers='--listen --only --fuzz --seed --send --destination --node --keepalive --segment-mru'
+      numbers+=' --transfer-mru --timeout --patience --wait --jobs'
+      paths='--play --junit --tcpclkit' flags+=' --mine --list --must' again='--only'
+      ;;
     tcpclkit-page) sides='--closed' paths='-o --output --times --tcpclkit' ;;
   esac
   # bash cuts a value at `=`.
@@ -33,4 +38,4 @@ _tcpclkit_script() {
   mapfile -t COMPREPLY < <(compgen -W "$words" -- "$word")
 }
 
-complete -F _tcpclkit_script tcpclkit-{capture,split,pair,resync,json,faults,check-session,page}
+complete -F _tcpclkit_script tcpclkit-{capture,split,pair,resync,json,faults,check-session,page,probe}

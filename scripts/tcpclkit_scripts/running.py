@@ -56,6 +56,13 @@ def program(given):
     return found
 
 
+def faults(here):
+    """Returns the folder of the streams of tcpclkit-faults, from the folder of a script, or None. It is
+    where they are installed, or in the repository."""
+    places = (os.path.join(here, it) for it in ("../share/tcpclkit/faults", "../examples/faults"))
+    return next(filter(os.path.isdir, places), None)
+
+
 def make_folder(folder):
     """Makes a folder, unless it is there and is empty."""
     if not os.path.isdir(folder):

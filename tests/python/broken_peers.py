@@ -6,6 +6,9 @@ The answers are those that RFC 9174 asks for. A program that rejects a message e
 import struct
 from typing import NamedTuple
 
+from probing import wire
+from probing.wire import ack, item, refuse, segment
+
 START, END, ALL = 2, 1, 3
 CONTACT, OTHER_VERSION = b"dtn!\4\0", b"dtn!\3\0"
 KEEPALIVE, TERM, CONTACT_FAILURE, UNEXPECTED = b"\4", b"\5\0\0", b"\5\0\4", b"\6\3"
@@ -23,28 +26,7 @@ class Fault(NamedTuple):
 
 def sess_init(items=b"", segment_mru=65536):
     """Returns a SESS_INIT."""
-    return struct.pack(">BHQQH7sI", 7, 60, segment_mru, 2**20, 7, b"ipn:3.0", len(items)) + items
-
-
-def item(flags, kind, value=b""):
-    """Returns an extension item."""
-    return struct.pack(">BHH", flags, kind, len(value)) + value
-
-
-def segment(flags, number, data, items=b""):
-    """Returns a segment, with a list of items if it has START."""
-    listed = struct.pack(">I", len(items)) + items if flags & START else b""
-    return struct.pack(">BBQ", 1, flags, number) + listed + struct.pack(">Q", len(data)) + data
-
-
-def ack(flags, number, length):
-    """Returns an XFER_ACK."""
-    return struct.pack(">BBQQ", 2, flags, number, length)
-
-
-def refuse(reason, number):
-    """Returns an XFER_REFUSE."""
-    return struct.pack(">BBQ", 3, reason, number)
+    return wire.sess_init(60, segment_mru, 2**20, b"ipn:3.0", items)
 
 
 def rejected(kind):

@@ -8,7 +8,7 @@ import sys
 
 from .common import HEAD, PROGRAM, TOP, empty_room, install, read, run, write
 
-SCRIPTS = ["split", "pair", "resync", "capture", "json", "faults", "check-session", "page"]
+SCRIPTS = ["split", "pair", "resync", "capture", "json", "faults", "check-session", "page", "probe"]
 
 
 def help_texts():
