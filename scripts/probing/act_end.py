@@ -13,6 +13,9 @@ OTHER = 1 << 62
 # How much later than it should a KEEPALIVE may come, in seconds: a packet that was lost is sent again.
 SLACK = 5
 
+# How long a node should wait for a contact header at most, in seconds (section 4.1)
+CONTACT_TIMEOUT = 60
+
 
 # ---- answers out of place
 
@@ -204,6 +207,8 @@ async def silence_session(talk):
 @act("silence-header", wire.contact()[:CUT])
 async def silence(talk, data):
     """Sends no contact header, or not all of it."""
+    if talk.probe.patience <= CONTACT_TIMEOUT:
+        raise Skipped("--patience is no longer than the minute that a node may wait")
     if data:
         talk.put(data)
     talk.spoil()

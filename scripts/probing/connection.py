@@ -17,8 +17,9 @@ from .reading import Incoming
 # How the node ended the connection: by a FIN, by an RST; or not, since it sent too much
 FIN, RST, FLOOD = "fin", "rst", "flood"
 
-# How many bytes are read at once, and how many of a node are read in a case
-PIECE, MOST = 1 << 16, 1 << 24
+# How many bytes are read at once, and how many of a node are read in a case. The probe sends no more than
+# MOST_SENT bytes
+PIECE, MOST, MOST_SENT = 1 << 16, 1 << 24, 2 << 20
 
 
 class Record:
@@ -141,7 +142,8 @@ class Connection:
     async def write_piece(self, data, is_slow):
         """Sends bytes. If `is_slow`, waits until the node's system has them."""
         view = memoryview(data)
-        while view:
+        self.is_cut = self.sent.size + len(view) > MOST_SENT
+        while view and not self.is_cut:
             try:
                 count = self.sock.send(view)
                 self.sent.add(view[:count])

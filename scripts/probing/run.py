@@ -9,12 +9,12 @@ from . import act_begin, act_end, act_from, act_to  # noqa: F401 (they fill ACTS
 from . import addresses, dry, fuzz, table, verdict
 from .acts import ACTS
 from .bundles import Route, bundle, endpoint
-from .connection import FIN, Connection, folder_of
+from .connection import FIN, MOST_SENT, Connection, folder_of
 from .report import LOST, OK, SKIPPED, Result
 from .talk import NoSession, Skipped, Talk
 
-# The greatest limit of a node that a case exceeds: 2 MiB, less what a bundle has beside its payload
-EXCEEDED = (2 << 20) - 1024
+# The greatest limit of a node that a case exceeds: what the probe may send, less what else it sends
+EXCEEDED = MOST_SENT - (1 << 14)
 
 # How long the probe waits between two looks whether the node serves, in seconds, at first and at most
 FIRST_PAUSE, LAST_PAUSE = 0.2, 5.0
@@ -82,7 +82,7 @@ class Probe:
         """Returns the next connection with the node."""
         if self.role == table.CONNECTS:
             return Connection(await self.accept(), folder)
-        until = time.monotonic() + self.timeout
+        until, pause = time.monotonic() + self.timeout, FIRST_PAUSE / 32
         while True:
             for family, address in self.targets:
                 try:
@@ -95,7 +95,8 @@ class Probe:
                     why = os.strerror(error.errno)
             if time.monotonic() > until:
                 raise NoSession(why)
-            await asyncio.sleep(FIRST_PAUSE / 2)
+            await asyncio.sleep(pause)
+            pause = min(2 * pause, FIRST_PAUSE)
 
     async def connected(self, family, address):
         """Returns a socket that is connected to an address."""
@@ -152,16 +153,15 @@ class Probe:
 
     def why_not(self, case):
         """Returns why a case cannot be tried, or None."""
-        _, segment_mru, transfer_mru = self.base.limits
         reasons = {
             table.TAKES: self.why_no_bundle(),
             table.SENDS: None if self.base.sends else "the node sent no bundle",
             table.NO_TLS: "the node sets CAN_TLS too" if self.base.can_tls else None,
-            table.SEGMENT_MRU: f"2 MiB do not exceed its segment MRU of {segment_mru}" if segment_mru > EXCEEDED else None,
-            table.TRANSFER_MRU: f"2 MiB do not exceed its transfer MRU of {transfer_mru}" if transfer_mru > EXCEEDED else None,
+            table.SEGMENT_MRU: above("segment", self.base.limits[1]),
+            table.TRANSFER_MRU: above("transfer", self.base.limits[2]),
         }
         if case.role not in (table.ANY, self.role):
-            return f"it is for nodes that {case.role.replace('accepts', 'accept a connection').replace('connects', 'connect')}"
+            return f"it is for nodes that {'connect' if case.role == table.CONNECTS else 'accept a connection'}"
         return next((reasons[it] for it in case.needs if reasons[it]), None)
 
     def why_no_bundle(self):
@@ -261,6 +261,11 @@ class Probe:
         return None
 
 
+def above(name, limit):
+    """Returns why a case cannot exceed a limit of the node, or None."""
+    return f"2 MiB do not exceed its {name} MRU of {limit}" if limit > EXCEEDED else None
+
+
 def results_of(case, broken):
     """Returns the results of what a node breaks. The case `good` has one for each rule."""
     if not broken:
@@ -298,18 +303,22 @@ def class_of(case):
 
 
 async def run_all(probe, cases):
-    """Runs cases, at most as many at a time as the option says. `sent-good` comes first: what it shows
-    of the node matters to others."""
-    left = sorted(cases, key=lambda case: case.name != "sent-good")[::-1]
+    """Runs cases, at most as many at a time as the option says. `sent-good` comes first, since what it shows
+    of the node matters to others, and `crowd` last and alone."""
+    first = [case for case in cases if case.name == "sent-good"]
+    last = [case for case in cases if case.group == "crowd"]
+    left = [case for case in reversed(cases) if case not in first + last]
     jobs = 1 if probe.given.listen else probe.given.jobs
 
     async def work():
         while left:
             await run_one(probe, left.pop())
 
-    if left and left[-1].name == "sent-good":
-        await run_one(probe, left.pop())
+    for case in first:
+        await run_one(probe, case)
     await asyncio.gather(*(work() for _ in range(jobs)))
+    for case in last:
+        await run_one(probe, case)
 
 
 async def run_one(probe, case):

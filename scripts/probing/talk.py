@@ -12,6 +12,10 @@ from .table import ACCEPTS
 TICK = 0.25
 
 
+# The words of messages that have no reason
+WORDS = {wire.XFER_ACK: "ack", wire.KEEPALIVE: "keepalive", wire.SESS_INIT: "init", wire.XFER_SEGMENT: "segment"}
+
+
 class NoSession(Exception):
     """The node has not come to a session. The text says why."""
 
@@ -247,8 +251,7 @@ class Talk:
             return f"refuse-{message.reason:02x}"
         if message.kind == wire.MSG_REJECT:
             return f"reject-{message.reason:02x}"
-        names = {wire.XFER_ACK: "ack", wire.KEEPALIVE: "keepalive", wire.SESS_INIT: "init", wire.XFER_SEGMENT: "segment"}
-        return names[message.kind]
+        return WORDS[message.kind]
 
     def facts(self):
         """Returns what the node has done, as words of answers, each with how often."""

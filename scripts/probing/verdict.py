@@ -20,6 +20,7 @@ WIRE, PERMITTED = "wire", ("truncated", "too long", "too many")
 # Rules that a case does not judge, since the RFC permits here what breaks them:
 # - a node may answer in another version
 # - answers to two transfers with one ID cannot be told apart
+# - how long a node waits before it ends an idle session, it chooses itself
 # - a SESS_TERM with REPLY may be answered too
 # - a SESS_INIT after the end need not be answered
 # - reserved flags of a SESS_TERM are to be repeated, and to be 0
@@ -28,7 +29,7 @@ LEFT_OUT = {
     **{f"version-{it}": (WIRE, "version") for it in (0, 3)}, "version-5": (WIRE,), "version-255": (WIRE,),
     **{f"reply-version-{it}": (WIRE, "version") for it in (0, 3, 5)},
     "id-again": ("ack-missing", "ack-beyond", "ack-sum", "ack-flags", "answer-order", "refused-acknowledged"),
-    "term-reply": ("reply-alone", "reply-differs"), "init-after-term": ("not-rejected",),
+    "silence-session": ("idle",), "term-reply": ("reply-alone", "reply-differs"), "init-after-term": ("not-rejected",),
     "term-flags": ("reply-differs", "term-flags"),
 }
 

@@ -1,15 +1,20 @@
 """Options, statuses, the file of JUnit, an interrupt, and --listen."""
 
+import asyncio
+import contextlib
+import io
 import os
 import re
 import signal
 import socket
 import subprocess
+import sys
 import threading
 import time
+import types
 import xml.etree.ElementTree as ElementTree
 
-from probing import table
+from probing import addresses, run, table
 
 from .nodes import NODE, PROGRAMS, Fragile, connecting, free_port, needs, node, probe, room, words_of
 
@@ -159,7 +164,8 @@ def interrupt():
         time.sleep(0.3)
         process.send_signal(signal.SIGINT)
         shown, errors = process.communicate(timeout=20)
-        yield "interrupt: lines", ("ok good\n", "1 ok, 0 must, 0 should, 0 lost, 0 skipped\n", ""), (first, shown, errors)
+        counts = "1 ok, 0 must, 0 should, 0 lost, 0 skipped\n"
+        yield "interrupt: lines", ("ok good\n", counts, ""), (first, shown, errors)
         yield "interrupt: status", 130, process.returncode
         yield "interrupt: JUnit", True, os.path.exists(f"{at}/junit")
 
@@ -179,7 +185,8 @@ def listens():
             rest, _ = process.communicate(timeout=30)
         yield "lines", ["ok good", "ok magic", "2 ok, 0 must, 0 should, 0 lost, 0 skipped"], rest.splitlines()
         ran = probe(*QUICK, "--wait", "0.5", "--listen", "127.0.0.1:0", f"{at}/other")
-        yield "nobody comes", (4, ["no session: the node has not connected within 0.5 s"]), (ran.status, ran.lines("no"))
+        line = "no session: the node has not connected within 0.5 s"
+        yield "nobody comes", (4, [line]), (ran.status, ran.lines("no"))
 
 
 @needs(PROGRAMS, NODE)
@@ -193,4 +200,70 @@ def bundles():
         yield "--destination", {"good", "segments"}, ran.names("ok")
 
 
-PARTS = [arguments, listed, without_session, files, lost, interrupt, listens, bundles]
+@needs(PROGRAMS, NODE)
+def commands():
+    """--send runs a command, without a shell, in each case that needs a bundle of the node, and ends it."""
+    with node() as address, room() as at:
+        script = "import os, sys, time; open(sys.argv[1], 'a').write(f'{os.getpid()} {sys.argv[2]}\\n'); time.sleep(60)"
+        words = f"{sys.executable} -c \"{script}\" {at}/ran '$HOME *'"
+        ran = probe(*QUICK, "--only", "good,sent-segment-1,refuse-last", "--send", words, f"{at}/made", address)
+        yield "--send: lines", (0, {"good", "sent-segment-1"}, {"refuse-last"}), (
+            ran.status, ran.names("ok"), ran.names("skipped")
+        )
+        with open(f"{at}/ran", encoding="utf-8") as file:
+            lines = [line.split(" ", 1) for line in file.read().splitlines()]
+        yield "--send: words", ["$HOME *"] * 2, [line[1] for line in lines]
+        yield "--send: ended", [], [line[0] for line in lines if os.path.exists(f"/proc/{line[0]}")]
+        ran = probe(*QUICK, "--send", "no-such-program", f"{at}/other", address)
+        yield "--send: no program", (4, ""), (ran.status, ran.output)
+
+
+@needs(PROGRAMS, NODE)
+def levels():
+    """What `good` breaks has its line there alone. --must writes no should, and gives it no status."""
+    # RFC 9174 section 5.1.1: no shorter than 30 seconds
+    with node("--keepalive", "29") as address, room() as at:
+        only = ["--only", "good,segments"]
+        ran = probe(*QUICK, *only, f"{at}/all", address)
+        must = probe(*QUICK, *only, "--must", f"{at}/must", address)
+    lines = ran.output.splitlines()
+    yield "a should", (1, "should good keepalive-interval expected=kept got=", "ok segments"), (
+        ran.status, lines[0].partition("got=")[0] + "got=", lines[1]
+    )
+    yield "counts", "1 ok, 0 must, 1 should, 0 lost, 0 skipped", lines[-1]
+    yield "--must", (0, ["ok good", "ok segments", "2 ok, 0 must, 0 should, 0 lost, 0 skipped"]), (
+        must.status, must.output.splitlines()
+    )
+
+
+def strangers():
+    """With --listen, a peer that is not allowed is closed before a byte is sent."""
+    given = types.SimpleNamespace(
+        timeout=1, patience=1, node="", send=[], keepalive=1, segment_mru=1, transfer_mru=1, listen="", mine=False,
+        wait=5,
+    )
+
+    async def work():
+        it = run.Probe(given, None, [(socket.AF_INET, ("127.0.0.1", 0))], None)
+        it.role = table.CONNECTS
+        with contextlib.redirect_stdout(io.StringIO()):
+            await it.start()
+        port = it.coming.getsockname()
+        stranger = socket.create_connection(port, source_address=("127.0.0.2", 0))
+        friend = socket.create_connection(port, source_address=("127.0.0.3", 0))
+        taken = await it.accept()
+        peer = taken.getpeername()[0]
+        stranger.settimeout(5)
+        found = stranger.recv(10), peer
+        for sock in (stranger, friend, taken, it.coming):
+            sock.close()
+        return found
+
+    real, addresses.is_private = addresses.is_private, lambda number: number == "127.0.0.3"
+    try:
+        yield "a stranger, and then another peer", (b"", "127.0.0.3"), asyncio.run(work())
+    finally:
+        addresses.is_private = real
+
+
+PARTS = [arguments, listed, without_session, files, lost, interrupt, listens, bundles, commands, levels, strangers]

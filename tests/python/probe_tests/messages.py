@@ -28,7 +28,8 @@ def packed():
         data = file.read()
     for size in (1, 7, 20, 1000):
         status, got = tcpclkit("pack", "--node", "ipn:1.0", "--peer-segment", f"{size}", "--end", data=data)
-        lengths = [int(line.rsplit(b"=", 1)[1]) for line in tcpclkit("list", data=got)[1].splitlines() if b" length=" in line]
+        lines = tcpclkit("list", data=got)[1].splitlines()
+        lengths = [int(line.rsplit(b"=", 1)[1]) for line in lines if b" length=" in line]
         wanted, at, ident = wire.contact() + wire.sess_init(60, 65536, 1048576, b"ipn:1.0"), 0, 0
         while lengths:
             pieces = []
@@ -168,7 +169,8 @@ def written():
 @needs(PROGRAMS)
 def bundle():
     """The bundles break no rule, and are addressed as planned."""
-    for source, destination in [("dtn://probe/", "ipn:2.0"), ("ipn:9.0", "dtn://a.node/"), ("ipn:1.2.0", "ipn:4294967297.0")]:
+    routes = [("dtn://probe/", "ipn:2.0"), ("ipn:9.0", "dtn://a.node/"), ("ipn:1.2.0", "ipn:4294967297.0")]
+    for source, destination in routes:
         route = bundles.Route(bundles.endpoint(source), bundles.endpoint(destination))
         with room() as at:
             data = bundles.bundle(route, 24, b"x" * 300)

@@ -57,6 +57,21 @@ def quoted(line, it, words):
     yield ""
 
 
+def proofs():
+    """Yields the lines about what makes a line a must."""
+    yield "## When a line is a must\n"
+    yield "A line of a case of level `must` is a `must` in two cases. Otherwise it is a `should`.\n"
+    yield "- The node closed the connection by a FIN, without any of the answers, and without a SESS_TERM of"
+    yield "  its own before. A refusal or rejection for another reason does not count as none."
+    yield "- It gave an answer that proves the breach. `late` and `open` mean that the time of the sentence"
+    yield "  is over, and `goes-on` that a segment came after the node had read the refusal.\n"
+    for word in dict.fromkeys(table.PROOFS.values()):
+        names = ", ".join(f"`{name}`" for name, it in table.PROOFS.items() if it == word)
+        words = ", ".join(f"`{it}`" for it in word.split())
+        yield textwrap.fill(f"- {words}: {names}", 98, subsequent_indent="  ", break_on_hyphens=False)
+    yield ""
+
+
 def cited():
     """Yields the sentences of the cases, with their names."""
     yield "## Sentences\n"
@@ -80,7 +95,7 @@ def page():
     lines = list(answers())
     for name in groups:
         lines += group(name, [case for case in table.CASES if case.group == name])
-    lines += [*cited(), *left()]
+    lines += [*proofs(), *cited(), *left()]
     return HEAD + "\n".join(lines).rstrip("\n") + "\n"
 
 
