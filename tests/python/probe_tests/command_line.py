@@ -18,7 +18,8 @@ from probing import addresses, run, table
 
 from .nodes import NODE, PROGRAMS, Fragile, connecting, free_port, needs, node, probe, room, words_of
 
-QUICK = ["--timeout", "0.5", "--patience", "1"]
+# For nodes that never answer, and for right ones
+QUICK, PATIENT = ["--timeout", "0.5", "--patience", "1"], ["--timeout", "3", "--patience", "1"]
 COUNTS = re.compile(r"(\d+) ok, (\d+) must, (\d+) should, (\d+) lost, (\d+) skipped")
 
 # Arguments that are refused, which all are status 2
@@ -110,7 +111,7 @@ class answering:
 def files():
     """Each case has its recordings, their times and lines.txt. --junit has a testcase for each case."""
     with node("--send", "1") as address, room() as at:
-        ran = probe(*QUICK, "--only", "contact,second-init,crowd", "--junit", f"{at}/junit", f"{at}/made", address)
+        ran = probe(*PATIENT, "--only", "contact,second-init,crowd", "--junit", f"{at}/junit", f"{at}/made", address)
         names = sorted(os.listdir(f"{at}/made"))
         numbers = {case.name: number for number, case in enumerate(table.CASES, 1)}
         wanted = sorted(f"{numbers[it]:03}-{it}" for it in ran.names("ok"))
@@ -126,7 +127,7 @@ def files():
             (it[1], it[3]) for it in shown[:4]
         }
         yield from junit(f"{at}/junit", ran)
-        again = probe(*QUICK, f"{at}/made", address)
+        again = probe(*PATIENT, f"{at}/made", address)
         yield "the folder is not empty", 4, again.status
 
 
@@ -144,7 +145,7 @@ def junit(path, ran):
 def lost():
     """A case after which the node has gone has the line `lost`, and those after it are skipped."""
     with node() as address, Fragile(address, lambda sent: sent == b"dtn?\4\0") as fragile, room() as at:
-        ran = probe(*QUICK, "--only", "contact-flags,magic,segments", f"{at}/made", fragile.address)
+        ran = probe(*PATIENT, "--only", "contact-flags,magic,segments", f"{at}/made", fragile.address)
     yield "lost: lines", [
         "ok good", "ok contact-flags", "lost magic seconds=1", "skipped segments: the node has not served since magic",
         "2 ok, 0 must, 0 should, 1 lost, 1 skipped",
@@ -175,7 +176,7 @@ def listens():
     """With --listen, the first line says where. If the node does not come, the run ends."""
     with room() as at:
         process = subprocess.Popen(
-            words_of(*QUICK, "--wait", "3", "--listen", "127.0.0.1:0", "--only", "magic", f"{at}/made"),
+            words_of(*PATIENT, "--wait", "3", "--listen", "127.0.0.1:0", "--only", "magic", f"{at}/made"),
             stdout=subprocess.PIPE, encoding="utf-8",
         )
         first = process.stdout.readline()
@@ -193,10 +194,10 @@ def listens():
 def bundles():
     """Without a node ID, cases with bundles are skipped; --destination names one."""
     with node("--node", "") as address, room() as at:
-        ran = probe(*QUICK, "--only", "good,segments,contact-flags", f"{at}/none", address)
+        ran = probe(*PATIENT, "--only", "good,segments,contact-flags", f"{at}/none", address)
         yield "no node ID: skipped", {"segments"}, ran.names("skipped")
         yield "no node ID: others", {"good", "contact-flags"}, ran.names("ok")
-        ran = probe(*QUICK, "--only", "good,segments", "--destination", "ipn:2.0", f"{at}/named", address)
+        ran = probe(*PATIENT, "--only", "good,segments", "--destination", "ipn:2.0", f"{at}/named", address)
         yield "--destination", {"good", "segments"}, ran.names("ok")
 
 
@@ -224,8 +225,8 @@ def levels():
     # RFC 9174 section 5.1.1: no shorter than 30 seconds
     with node("--keepalive", "29") as address, room() as at:
         only = ["--only", "good,segments"]
-        ran = probe(*QUICK, *only, f"{at}/all", address)
-        must = probe(*QUICK, *only, "--must", f"{at}/must", address)
+        ran = probe(*PATIENT, *only, f"{at}/all", address)
+        must = probe(*PATIENT, *only, "--must", f"{at}/must", address)
     lines = ran.output.splitlines()
     yield "a should", (1, "should good keepalive-interval expected=kept got=", "ok segments"), (
         ran.status, lines[0].partition("got=")[0] + "got=", lines[1]

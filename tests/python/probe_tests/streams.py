@@ -9,7 +9,7 @@ from probing import bundles, dry, fuzz, planned, run, wire
 from . import TOP
 from .nodes import NODE, PROGRAMS, Fragile, needs, node, probe, room
 
-QUICK = ["--timeout", "0.5", "--patience", "1"]
+QUICK = ["--timeout", "3", "--patience", "2"]
 ROUTE = bundles.Route(bundles.endpoint("dtn://probe/"), bundles.endpoint("ipn:2.0"))
 GOOD = bundles.bundle(ROUTE, 7, now=1.8e9)
 
@@ -114,7 +114,7 @@ def not_survived():
             yield "kept", True, is_fatal(file.read())
         with Fragile(address, is_fatal) as fragile:
             ran = probe(*QUICK, "--play", path, f"{at}/again", fragile.address)
-        yield "--play", (1, ["ok good", "lost play seconds=1"]), (ran.status, ran.lines("ok", "lost"))
+        yield "--play", (1, ["ok good", "lost play seconds=2"]), (ran.status, ran.lines("ok", "lost"))
         ran = probe(*QUICK, "--play", path, f"{at}/right", address)
         yield "--play to a right node", (0, ["ok good", "ok play"]), (ran.status, ran.lines("ok", "lost"))
 
