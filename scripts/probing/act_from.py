@@ -68,10 +68,11 @@ async def limited(talk, limits):
 @act("refuse-middle", 0x02, 3)
 async def refused(talk, reason, number):
     """Refuses the transfer of a segment, and then tries whether the node serves."""
-    refused_id = []
+    refused_id, taken = [], []
 
     def take(message):
-        if not refused_id and (len(talk.segments()) >= number or message.flags & wire.END):
+        taken.append(message)
+        if not refused_id and (len(taken) >= number or message.flags & wire.END):
             refused_id.append(message.ident)
         if message.ident in refused_id:
             talk.put(wire.refuse(reason, message.ident))

@@ -4,10 +4,10 @@ import re
 import time
 from typing import NamedTuple
 
-# The times of bundles count milliseconds from the start of 2000 (section 4.2.6).
+# The times of bundles count milliseconds from the start of 2000 (RFC 9171 section 4.2.6).
 EPOCH = 946684800
 
-# How long a bundle lives, in milliseconds, and the flag that forbids to fragment it (section 4.2.3)
+# How long a bundle lives, in milliseconds, and the flag that forbids to fragment it (RFC 9171 section 4.2.3)
 LIFETIME, NOT_TO_FRAGMENT = 10_000, 0x04
 
 # Of an endpoint ID: what the probe can write
@@ -29,7 +29,7 @@ def array(*parts):
 
 
 def endpoint(text):
-    """Returns an endpoint ID (section 4.2.5.1), or None if the probe cannot write it."""
+    """Returns an endpoint ID (RFC 9171 section 4.2.5.1), or None if the probe cannot write it."""
     named, numbered = DTN.fullmatch(text), IPN.fullmatch(text)
     if text == "dtn:none":
         return array(head(0, 1), head(0, 0))
@@ -42,7 +42,7 @@ def endpoint(text):
 
 
 def crc16(data):
-    """Returns the CRC16 of X.25 (section 4.2.1)."""
+    """Returns the CRC16 of X.25 (RFC 9171 section 4.2.1)."""
     value = 0xFFFF
     for byte in data:
         value ^= byte

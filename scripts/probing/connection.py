@@ -21,6 +21,9 @@ FIN, RST, FLOOD = "fin", "rst", "flood"
 # MOST_SENT bytes
 PIECE, MOST, MOST_SENT = 1 << 16, 1 << 24, 2 << 20
 
+# How long the node gets for each byte that is sent by itself, and at most for all of them, in seconds
+PAUSE, SLOWEST = 0.002, 30
+
 
 class Record:
     """The recording of one side: its bytes, and a file of times as tcpclkit-capture writes it."""
@@ -154,8 +157,10 @@ class Connection:
                 self.was_reset = self.was_reset or isinstance(error, ConnectionResetError)
                 self.is_cut = True
                 return
-        while is_slow and self.end is None and self.unread() > 0:
-            await asyncio.sleep(0.0005)
+        while is_slow and self.end is None:
+            await asyncio.sleep(PAUSE)
+            if self.unread() == 0:
+                break
 
     async def may_write(self):
         """Waits until bytes may be written."""
@@ -174,6 +179,10 @@ class Connection:
         except OSError:
             return 0
         return int.from_bytes(found, "little")
+
+    async def sent_slowly(self):
+        """Waits until nothing is left that is sent byte by byte: the wait for an answer begins then."""
+        await self.wait(lambda: self.end is not None or not any(is_slow for _, is_slow in self.queue), SLOWEST)
 
     async def flush(self, seconds):
         """Waits until all that was put is sent, or cannot be. Returns whether it is sent."""

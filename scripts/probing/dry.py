@@ -27,6 +27,9 @@ class Dry(Connection):
         """Returns whether a test holds."""
         return bool(test())
 
+    async def sent_slowly(self):
+        """Does nothing."""
+
     async def flush(self, seconds):
         """Does nothing."""
         return True

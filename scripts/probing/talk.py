@@ -112,6 +112,7 @@ class Talk:
         header = wire.contact() if header is None else header
         if self.role == ACCEPTS:
             self.put(header, is_slow)
+            await self.connection.sent_slowly()
         incoming = self.connection.incoming
         await self.connection.wait(lambda: incoming.contact or incoming.fault or self.connection.end, self.timeout)
         if not self.contact_came():
@@ -131,6 +132,7 @@ class Talk:
         if self.role != ACCEPTS:
             await self.connection.wait(self.is_decided, self.timeout)
         self.put(message, is_slow)
+        await self.connection.sent_slowly()
         await self.connection.wait(self.is_decided, self.timeout)
         if self.init is not None and not self.is_spoiled:
             self.upkeep_task = asyncio.get_running_loop().create_task(self.upkeep())
@@ -283,6 +285,7 @@ class Talk:
 
     async def until(self, *alternatives):
         """Waits for one of these answers, or for the end of the connection."""
+        await self.connection.sent_slowly()
         await self.connection.wait(lambda: self.connection.end or self.holds(*alternatives), self.timeout)
         return self.holds(*alternatives)
 

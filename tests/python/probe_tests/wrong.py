@@ -1,62 +1,71 @@
-"""Each wrong switch of the node of tests/python/rfc_node gets its line."""
+"""The node of tests/python/rfc_node with a wrong switch gets the line of the case that the switch is for."""
 
-from typing import NamedTuple
+from concurrent.futures import ThreadPoolExecutor
+
+from probing import table
+from rfc_node.cases import CASES, CONNECTING, options_of
 
 from .nodes import NODE, PROGRAMS, connecting, free_port, needs, node, probe, room
 
-QUICK = ["--timeout", "1", "--patience", "3"]
+QUICK = ["--timeout", "1", "--patience", "3", "--wait", "15"]
+# How many runs go on at the same time, and how often one is tried whose switch needs bytes to come apart:
+# the system may hand several of them to the node at once
+JOBS, TRIES = 4, 3
+IN_BYTES = {"contact-bytes", "init-bytes", "segment-bytes", "term-bytes"}
+# The cases of which the whole table is run too: no other case may have a line
+ALONE = [
+    "can-tls", "node-empty", "item-critical", "second-init", "segment-flags", "empty-middle", "id-max",
+    "length-small", "refused-goes-on", "type-08",
+]
 
 
-class Due(NamedTuple):
-    """What a wrong switch breaks: the case, the begin of its line, and options of the node.
-
-    `connects`: the node connects. `is_alone`: no other case of the table changes its line.
-    """
-
-    case: str
-    line: str
-    options: tuple = ()
-    connects: bool = False
-    is_alone: bool = False
+def accusing():
+    """Returns the cases that have a wrong switch, except those of groups apart."""
+    return [case.name for case in table.CASES if case.name in CASES and case.group not in table.APART]
 
 
-# By the name of a wrong switch, what is due
-DUE = {}
-
-
-def tried(due, switches, *options):
-    """Runs the probe with a node that has these wrong switches."""
-    words = [it for name in switches for it in ("--wrong", name)] + list(due.options)
+def accused(case, *options):
+    """Returns the names of the cases that accuse the node with the wrong switch of a case."""
     with room() as at:
-        if due.connects:
+        if case in CONNECTING:
             address = f"127.0.0.1:{free_port()}"
-            with connecting(address, *words):
-                return probe(*QUICK, "--listen", address, *options, f"{at}/tried")
-        with node(*words) as address:
-            return probe(*QUICK, "--jobs", "4", *options, f"{at}/tried", address)
+            with connecting(address, *options_of(case)):
+                ran = probe(*QUICK, "--listen", address, *options, f"{at}/tried")
+        else:
+            with node(*options_of(case)) as address:
+                ran = probe(*QUICK, *options, f"{at}/tried", address)
+    return ran.names("must") | ran.names("should") | ran.names("lost")
 
 
-def line_of(ran, case):
-    """Returns the line of a case."""
-    return next((line for line in ran.output.splitlines() if line.split()[1:2] == [case]), None)
+def alone(case):
+    """Returns the cases that accuse the node in a run of one case. A run without any is made again if the
+    switch needs bytes to come apart."""
+    for _ in range(TRIES if case in IN_BYTES else 1):
+        found = accused(case, "--only", case)
+        if found:
+            break
+    return found
+
+
+def of_table(case):
+    """Returns the cases that accuse the node in a run of the whole table."""
+    return accused(case, "--jobs", "8")
 
 
 @needs(PROGRAMS, NODE)
 def due_lines():
-    """The case of each wrong switch has its line."""
-    for name, due in DUE.items():
-        got = line_of(tried(due, [name], "--only", due.case), due.case) or ""
-        yield f"--wrong {name}", due.line, got[: len(due.line)]
+    """The case of each wrong switch accuses the node, and `good` does not."""
+    with ThreadPoolExecutor(JOBS) as pool:
+        for case, found in zip(accusing(), pool.map(alone, accusing())):
+            yield f"{CASES[case]}: {case}", {case}, found
 
 
 @needs(PROGRAMS, NODE)
-def alone():
-    """Of some wrong switches, no other case has a line."""
-    for name, due in DUE.items():
-        if due.is_alone:
-            ran = tried(due, [name])
-            others = [it for it in ran.lines("must", "should", "lost") if it.split()[1] != due.case]
-            yield f"--wrong {name}: other cases", [], others
+def no_other_line():
+    """In a run of the whole table, no other case accuses a node with one of some wrong switches."""
+    with ThreadPoolExecutor(JOBS // 2) as pool:
+        for case, found in zip(ALONE, pool.map(of_table, ALONE)):
+            yield f"{CASES[case]}: no case but {case}", {case}, found
 
 
-PARTS = [due_lines, alone]
+PARTS = [due_lines, no_other_line]
