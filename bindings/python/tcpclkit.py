@@ -1200,7 +1200,7 @@ class Run(NamedTuple):
     """What a tool wrote on standard output and on standard error, and its exit status.
 
     If one of the texts has more than 4,096 bytes, the tool ran twice: once to learn how long both
-    are. So a run takes no more memory than its texts.
+    are, and once with room for exactly these bytes.
     """
     output: bytes
     report: bytes
@@ -1208,7 +1208,8 @@ class Run(NamedTuple):
 
 
 # Returns bytes of a length that are yet to be written. CPython lets its caller write them, as long
-# as nobody else has them. So a text of a tool takes no memory beside what is returned.
+# as nobody else has them. So a text of a second run takes no memory beside what is returned. In a
+# first run, a text has FIRST_ROOM bytes, and what is returned is a copy if the text is shorter.
 _NEW_BYTES = ctypes.PYFUNCTYPE(py_object, c_char_p, c_size_t)(
     ("PyBytes_FromStringAndSize", ctypes.pythonapi)
 )
