@@ -3,7 +3,7 @@
 import asyncio
 
 from . import wire
-from .act_begin import CUT, begun, close
+from .act_begin import CUT, close
 from .acts import act, halves
 from .talk import NoSession, Skipped
 
@@ -219,14 +219,14 @@ async def silence(talk, data):
 
 @act("crowd")
 async def crowd(talk):
-    """Holds eight sessions that are silent or half open, and one that is to be served."""
-    others = [await talk.probe.connect() for _ in range(8)]
+    """Holds eight sessions that are silent or half open, and then one that is to be served."""
+    others = [await talk.probe.connect() for _ in range(7)]
+    crowded = [talk.connection, *others]
     try:
-        for number, other in enumerate(others):
-            other.put(wire.contact()[: (0, CUT, 6, 6)[number % 4]])
-        await asyncio.gather(*(other.flush(talk.timeout) for other in others))
-        if await begun(talk):
-            await talk.serve()
+        for number, connection in enumerate(crowded):
+            connection.put(wire.contact()[: (0, CUT, 6, 6)[number % 4]])
+        await asyncio.gather(*(connection.flush(talk.timeout) for connection in crowded))
+        talk.notes["served"] += await talk.probe.serves()
     finally:
         for other in others:
             other.reset()

@@ -20,8 +20,8 @@ ALONE = [
 
 
 def accusing():
-    """Returns the cases that have a wrong switch, except those of groups apart."""
-    return [case.name for case in table.CASES if case.name in CASES and case.group not in table.APART]
+    """Returns the cases that have a wrong switch, except the slow ones."""
+    return [case.name for case in table.CASES if case.name in CASES and case.group != "slow"]
 
 
 def accused(case, *options):
