@@ -245,7 +245,8 @@ pub(crate) fn is_security_block(block: &BlockFacts) -> bool
     is_security(block.block_type)
 }
 
-/// Whether this toolkit reads the data of a block: an extension block or a security block.
+/// Whether this toolkit reads the data of each block with this type: an extension block or a
+/// security block. Of payloads, it reads only whole administrative records.
 pub(crate) fn has_readable_type(block: &BlockFacts) -> bool
     ensures { result ≡ has_readable_type block.now }
 {

@@ -1,4 +1,4 @@
-//! The law that no determined text is withheld.
+//! The law that `list` and `unpack` withhold no determined text.
 //!
 //! The contract of each function is a law, and the function does nothing when it runs. The proof of
 //! the first uses the contract of the call in it.
@@ -13,7 +13,7 @@ ghost use Rattle.link_tools_laws.specs.Withheld.{SaysLess, HasLongestSoFar};
 
 use link_wire::laws::exactly_one_reading;
 
-/// Nothing is missing from the texts that some bytes determine.
+/// For `list` and `unpack`, nothing is missing from the texts that some bytes determine.
 ///
 /// Take all inputs that begin with these bytes. If all their outputs begin with the same text, the
 /// determined output begins with this text too. If all their reports begin with the same whole

@@ -1,7 +1,7 @@
 //! Walks over heads, at once, byte by byte, and in two pieces cut at every position.
 //!
-//! The rows are encoded by hand from RFC 8949 section 3. Each begins with the array head of a
-//! bundle, which is passed over.
+//! The rows are encoded by hand from RFC 8949 section 3. In `ROWS`, each row except the empty one
+//! begins with the array head of a bundle, which is passed over.
 ghost use Rattle.std.specs.Prelude.{◌≤◌, length};
 
 use link_rules_shared::{HeadWalk, Prefix, Unread};
