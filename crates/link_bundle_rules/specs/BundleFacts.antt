@@ -79,7 +79,8 @@ abbrev pub find_map : {A B : Type 0} → (A → Option B) → List A → Option 
 find_map f [] = None
 find_map f (element ∷ more) = option_or (f element) (find_map f more)
 
--- whether this toolkit reads the data of a block: an extension block or a security block
+-- Whether this toolkit reads the data of each block with this type: an extension block or a
+-- security block. Of payloads, it reads only whole administrative records.
 abbrev pub has_readable_type : BlockFacts → Bool
 has_readable_type block = is_extension block || is_security_block block
 

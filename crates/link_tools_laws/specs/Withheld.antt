@@ -1,4 +1,5 @@
--- What the texts share of all inputs that begin with some bytes. Nothing of it is withheld.
+-- What the texts share of all inputs that begin with some bytes, and whether a tool withholds some
+-- of it.
 use Rattle.std.specs.Prelude.{◌≡◌, ◌⊎◌, ℕ, ◌<◌, List, [], ◌++◌, length}
 use Rattle.link_wire.specs.Bytes.{AreBytes}
 use Rattle.link_report.specs.Text.{newline}
