@@ -1,11 +1,9 @@
 """A TCP connection with a node. What passes is recorded, with times."""
 
 import asyncio
-import fcntl
 import os
 import socket
 import struct
-import termios
 import time
 from collections import deque
 
@@ -143,7 +141,7 @@ class Connection:
             self.wake()
 
     async def write_piece(self, data, is_slow):
-        """Sends bytes. If `is_slow`, waits until the node's system has them."""
+        """Sends bytes. If `is_slow`, gives the node time to read them."""
         view = memoryview(data)
         self.is_cut = self.sent.size + len(view) > MOST_SENT
         while view and not self.is_cut:
@@ -157,10 +155,8 @@ class Connection:
                 self.was_reset = self.was_reset or isinstance(error, ConnectionResetError)
                 self.is_cut = True
                 return
-        while is_slow and self.end is None:
+        if is_slow:
             await asyncio.sleep(PAUSE)
-            if self.unread() == 0:
-                break
 
     async def may_write(self):
         """Waits until bytes may be written."""
@@ -171,14 +167,6 @@ class Connection:
         finally:
             if not self.is_gone():
                 self.loop.remove_writer(self.descriptor)
-
-    def unread(self):
-        """Returns how many bytes the node's system has not acknowledged."""
-        try:
-            found = fcntl.ioctl(self.sock.fileno(), termios.TIOCOUTQ, b"\0" * 4)
-        except OSError:
-            return 0
-        return int.from_bytes(found, "little")
 
     async def sent_slowly(self):
         """Waits until nothing is left that is sent byte by byte: the wait for an answer begins then."""

@@ -8,6 +8,8 @@ from rfc_node.cases import CASES, CONNECTING, options_of
 from .nodes import NODE, PROGRAMS, connecting, free_port, needs, node, probe, room
 
 QUICK = ["--timeout", "1", "--patience", "3", "--wait", "15"]
+# In a run of the whole table, the node has more to do at the same time.
+WHOLE = ["--timeout", "5", "--patience", "10", "--jobs", "4"]
 # How many runs go on at the same time, and how often one is tried whose switch needs bytes to come apart:
 # the system may hand several of them to the node at once
 JOBS, TRIES = 4, 3
@@ -49,7 +51,7 @@ def alone(case):
 
 def of_table(case):
     """Returns the cases that accuse the node in a run of the whole table."""
-    return accused(case, "--jobs", "8")
+    return accused(case, *WHOLE)
 
 
 @needs(PROGRAMS, NODE)
@@ -63,7 +65,7 @@ def due_lines():
 @needs(PROGRAMS, NODE)
 def no_other_line():
     """In a run of the whole table, no other case accuses a node with one of some wrong switches."""
-    with ThreadPoolExecutor(JOBS // 2) as pool:
+    with ThreadPoolExecutor(JOBS) as pool:
         for case, found in zip(ALONE, pool.map(of_table, ALONE)):
             yield f"{CASES[case]}: no case but {case}", {case}, found
 
